@@ -1,0 +1,3 @@
+mod Hex
+mod Segments
+mod Slashes
