@@ -1,0 +1,111 @@
+//! CRC-32C, the checksum of log records and of files of state (pg_crc32c.h), by tables, eight bytes
+//! a step.
+#![tactic(auto)]
+
+ghost use Rattle.std.specs.Prelude.{◌≡◌, ◌+◌, ◌≤◌, ◌++◌, drop, fold, length};
+ghost use Rattle.byteorder.specs.Endian.{little_number};
+ghost use Rattle.pg_crc32c.specs.Crc32c.{after_bits, after_byte, crc32c_of};
+
+mod tables;
+
+use byteorder::{ByteOrder, LittleEndian};
+
+/// The CRC-32C of the two texts joined (`INIT_CRC32C`, `COMP_CRC32C` over each, `FIN_CRC32C`,
+/// pg_crc32c.h). A caller with one text passes an empty second one.
+///
+/// It takes no memory, and time in proportion to the bytes.
+#[tactic(auto, unfolding(crate::specs::Crc32c::crc32c_of))]
+pub fn crc32c(first: &[u8], second: &[u8]) -> u32
+    ensures { result ≡ crc32c_of (first.now ++ second.now) }
+{
+    extended(extended(u32::MAX, first), second) ^ u32::MAX
+}
+
+/// The state after the bytes: eight at a time, then the rest one by one.
+fn extended(crc: u32, bytes: &[u8]) -> u32
+    ensures { result ≡ fold after_byte crc bytes.now }
+{
+    let mut state = crc;
+    let mut at = 0;
+    while bytes.len() - at >= 8 {
+        state = after_word(u64::from(state) ^ word_at(bytes, at));
+        at += 8;
+    }
+    after_rest(state, &bytes[at..])
+}
+
+/// The eight bytes from `at` on as a number, the lowest byte first.
+fn word_at(bytes: &[u8], at: usize) -> u64
+    requires { at + 8 ≤ length bytes.now }
+    ensures { result ≡ little_number 8 (drop at bytes.now) }
+{
+    LittleEndian::read_u64(&bytes[at..])
+}
+
+/// The state after the bytes, one by one.
+fn after_rest(crc: u32, bytes: &[u8]) -> u32
+    ensures { result ≡ fold after_byte crc bytes.now }
+{
+    let mut state = crc;
+    for byte in bytes {
+        state = step(state, *byte);
+    }
+    state
+}
+
+/// The state after one byte.
+fn step(crc: u32, byte: u8) -> u32
+    ensures { result ≡ after_byte crc byte }
+{
+    let low = (crc ^ u32::from(byte)) % 256;
+    (crc >> 8) ^ tables::entry_1(low as usize)
+}
+
+/// The state after the 64 bits of `word`, into which the state before has been joined. Each byte is
+/// divided by the table for its distance from the end (slicing by eight, as in pg_crc32c_sb8.c).
+fn after_word(word: u64) -> u32
+    ensures { result ≡ after_bits 64 word }
+{
+    tables::entry_1((word >> 56) as usize)
+        ^ tables::entry_2((word >> 48) as usize % 256)
+        ^ tables::entry_3((word >> 40) as usize % 256)
+        ^ tables::entry_4((word >> 32) as usize % 256)
+        ^ tables::entry_5((word >> 24) as usize % 256)
+        ^ tables::entry_6((word >> 16) as usize % 256)
+        ^ tables::entry_7((word >> 8) as usize % 256)
+        ^ tables::entry_8(word as usize % 256)
+}
+
+#[cfg(test)]
+mod tests {
+    use super::*;
+    use std::test::Fail;
+
+    /// The check value of the catalogue of CRC algorithms, and the vectors of RFC 3720, appendix B.4.
+    #[test]
+    fn published_vectors(rt: HostRuntime) -> Result<(), Fail> {
+        let rising: [u8; 32] = [
+            0, 1, 2, 3, 4, 5, 6, 7, 8, 9, 10, 11, 12, 13, 14, 15, 16, 17, 18, 19, 20, 21, 22, 23,
+            24, 25, 26, 27, 28, 29, 30, 31,
+        ];
+        assert_eq!(rt; crc32c(b"", b""), 0);
+        assert_eq!(rt; crc32c(b"123456789", b""), 0xE306_9283);
+        assert_eq!(rt; crc32c(&[0; 32], b""), 0x8A91_36AA);
+        assert_eq!(rt; crc32c(&[0xff; 32], b""), 0x62A8_AB43);
+        assert_eq!(rt; crc32c(&rising, b""), 0x46DD_794E);
+        Ok(())
+    }
+
+    #[test]
+    fn a_split_anywhere_is_the_same_text(rt: HostRuntime) -> Result<(), Fail> {
+        let text = b"123456789";
+        for at in 0..10 {
+            assert_eq!(rt;
+                crc32c(&text[..at], &text[at..]),
+                0xE306_9283,
+                "split at {at}"
+            );
+        }
+        Ok(())
+    }
+}
