@@ -1,0 +1,7 @@
+pub mod Archive
+pub mod Counts
+pub mod Faults
+pub mod Log
+pub mod LogEnds
+pub mod Memory
+pub mod Sink

@@ -1,0 +1,129 @@
+// The real objects. They tell no content and count their failures.
+ghost use Rattle.std.specs.Prelude.{◌≡◌, ◌≤◌, length, IfOk, None};
+ghost use Rattle.outside.specs.Faults.{Rose, counted};
+ghost use Rattle.outside.specs.Counts.{counted_IsCount, counted_le};
+
+use crate::archive::Archive;
+use crate::faults::FaultCount;
+use crate::sink::Sink;
+use pg_types::Fail;
+use std::alloc::Global;
+use std::io::{ErrorKind, Read, Seek, SeekFrom, Write};
+use std::rt::Files;
+use std::{fs, io};
+
+/// The folder `archive` of the current folder.
+#[derive(Drop)]
+pub struct FolderArchive<'a, R: Files> {
+    alloc: Global,
+    rt: &'a R,
+    count: FaultCount,
+}
+
+impl<'a, R: Files> FolderArchive<'a, R> {
+    pub fn new(alloc: Global, rt: &'a R) -> FolderArchive<'a, R>
+        ensures { counted result.count.faults ≡ 0 }
+    {
+        FolderArchive {
+            alloc,
+            rt,
+            count: FaultCount::new(),
+        }
+    }
+}
+
+impl<R: Files> Archive for FolderArchive<'_, R> {
+    ghost files = { λ _. None };
+
+    ghost fault_count = { λ archive. counted archive.count.faults };
+
+    fn fetch(&mut self, name: &str, at: u64, buf: &mut [u8]) -> Result<Option<usize>, Fail> {
+        let Ok(path) = format!(in self.alloc; "archive/{name}") else {
+            return Err(Fail::Memory);
+        };
+        match fs::open(self.rt, path.as_str()) {
+            Ok(mut file) => match read_from(&mut file, at, buf) {
+                Ok(count) => Ok(Some(count)),
+                Err(error) => Err(failure(&mut self.count, error.kind())),
+            },
+            Err(error) if error.kind() == ErrorKind::NotFound => Ok(None),
+            Err(error) => Err(failure(&mut self.count, error.kind())),
+        }
+    }
+
+    fn faults(&self) -> u64 {
+        self.count.value()
+    }
+
+    ghost counts = { λ archive. counted_IsCount archive.count.faults };
+}
+
+/// Standard output.
+#[derive(Drop)]
+pub struct StdoutSink<'a, R: Print> {
+    rt: &'a R,
+    count: FaultCount,
+}
+
+impl<'a, R: Print> StdoutSink<'a, R> {
+    pub fn new(rt: &'a R) -> StdoutSink<'a, R>
+        ensures { counted result.count.faults ≡ 0 }
+    {
+        StdoutSink {
+            rt,
+            count: FaultCount::new(),
+        }
+    }
+}
+
+impl<R: Print> Sink for StdoutSink<'_, R> {
+    ghost written = { λ _. None };
+
+    ghost fault_count = { λ sink. counted sink.count.faults };
+
+    ghost short_count = { λ _. 0 };
+
+    fn write(&mut self, bytes: &[u8]) -> Result<(), Fail> {
+        match io::writer(self.rt).write_all(bytes) {
+            Ok(()) => Ok(()),
+            Err(_) => {
+                self.count.rise();
+                Err(Fail::Failed)
+            }
+        }
+    }
+
+    fn faults(&self) -> u64 {
+        self.count.value()
+    }
+
+    ghost counts = { λ sink. counted_le sink.count.faults };
+}
+
+// What a failed call of the file system is to its caller; a fault is counted.
+fn failure(count: &mut FaultCount, kind: ErrorKind) -> Fail
+    ensures grows { counted count.old.faults ≤ counted count.new.faults }
+    ensures cause { result ≡ Fail.Failed → Rose (counted count.old.faults) (counted count.new.faults) }
+{
+    if kind == ErrorKind::OutOfMemory {
+        return Fail::Memory;
+    }
+    count.rise();
+    Fail::Failed
+}
+
+// Reads from the byte `at` on until the buffer is full or the file ends.
+fn read_from<F: Read + Seek>(file: &mut F, at: u64, buf: &mut [u8]) -> io::Result<usize>
+    ensures { IfOk result (λ count. count ≤ length buf.old) }
+{
+    file.seek(SeekFrom::Start(at))?;
+    let mut count = 0;
+    while count < buf.len() {
+        let more = file.read(&mut buf[count..])?;
+        if more == 0 {
+            break;
+        }
+        count += more;
+    }
+    Ok(count)
+}
