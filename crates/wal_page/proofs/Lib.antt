@@ -1,0 +1,3 @@
+pub mod SpelledNumbers
+pub mod Rules
+pub mod Laws
