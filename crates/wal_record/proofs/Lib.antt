@@ -1,0 +1,13 @@
+pub mod Walking
+pub mod Laid
+pub mod Finding
+pub mod SpelledNumbers
+pub mod SpelledParts
+pub mod SpelledRecord
+pub mod CrcFits
+pub mod SpelledHeader
+pub mod SpelledWhole
+pub mod Flags
+pub mod Written
+pub mod EncodedRead
+pub mod Comparisons

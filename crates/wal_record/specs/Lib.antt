@@ -1,0 +1,6 @@
+pub mod Record
+pub mod Parts
+pub mod Decoded
+pub mod Views
+pub mod Spelling
+pub mod New

@@ -1,0 +1,86 @@
+ghost use Rattle.std.specs.Prelude.{◌≡◌, ◌∷◌, ◌++◌, [], OnOk, OnErr};
+
+use pg_types::{Bytes, Locator, Lsn, NoMemory, Xid};
+use std::alloc::Global;
+use std::marker::Model;
+
+/// A record that is to be written. Its length, its CRC and the flags of its blocks are computed.
+#[derive(Debug, Drop)]
+pub struct NewRecord {
+    pub xid: Xid,
+    /// Where the record before begins.
+    pub prev: Lsn,
+    pub info: u8,
+    pub manager: u8,
+    /// In the order of their ids.
+    pub blocks: NewBlocks,
+    /// Main data.
+    pub main: Bytes,
+}
+
+/// A block that a new record refers to.
+#[derive(Debug, Drop)]
+pub struct NewBlock {
+    /// Its id in the record, 0 to 32.
+    pub id: u8,
+    pub locator: Locator,
+    /// The relation's fork, 0 to 15.
+    pub fork: u8,
+    pub block: u32,
+    /// The page is made anew before the change.
+    pub will_init: bool,
+    pub image: Option<NewImage>,
+    /// The block's own data, at most 65535 bytes.
+    pub payload: Bytes,
+}
+
+/// A page image, not compressed: all 8192 bytes, or those around a hole of zeros.
+#[derive(Debug, Drop)]
+pub struct NewImage {
+    /// Replay restores the page from the image.
+    pub apply: bool,
+    /// Where the hole begins, 0 where there is none.
+    pub hole_at: u16,
+    pub bytes: Bytes,
+}
+
+/// The blocks of a new record. Contracts see them as a list.
+#[derive(Debug, Drop)]
+pub struct NewBlocks {
+    items: Vec<NewBlock>,
+}
+
+impl Model for NewBlocks {
+    ghost use Rattle.std.specs.Prelude.{List};
+    ghost use Rattle.wal_record.specs.declared.new.NewBlock.{NewBlock};
+
+    ghost Value = { List NewBlock };
+
+    ghost view = { λ blocks. blocks.items.items };
+}
+
+impl NewBlocks {
+    /// No blocks. It takes no memory.
+    pub fn new(alloc: Global) -> NewBlocks
+        ensures { result ≡ [] }
+    {
+        NewBlocks {
+            items: Vec::new(alloc),
+        }
+    }
+
+    /// Adds a block at the end. Where memory runs out the block is dropped.
+    pub fn push(&mut self, block: NewBlock) -> Result<(), NoMemory>
+        ensures ok { OnOk result (self.new ≡ self.old ++ block ∷ []) }
+        ensures err { OnErr result (self.new ≡ self.old) }
+    {
+        self.items.push(block)?;
+        Ok(())
+    }
+
+    pub fn as_slice(&self) -> &[NewBlock]
+        ensures { result.now ≡ self.now }
+    {
+        self.items.as_slice()
+    }
+}
