@@ -1,0 +1,2 @@
+pub mod ArchiveLog
+pub mod Ends
