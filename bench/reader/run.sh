@@ -1,0 +1,8 @@
+#!/bin/sh
+# Times the reader over a log of 16 segments of 16 MiB (or as many as the first argument says), beside
+# pg_waldump --quiet of an installed PostgreSQL over the same log.
+set -e
+here="$(cd "$(dirname "$0")" && pwd)"
+program="$here/../../crates/bench_reader"
+(cd "$program" && rt run >/dev/null)
+exec python3 "$here/compare.py" "$program/out/bench_reader" "${1:-16}"

@@ -1,0 +1,10 @@
+pub mod ToldBytes
+pub mod WindowSteps
+pub mod GatheredSteps
+pub mod Answered
+pub mod RecordSteps
+pub mod StepSteps
+pub mod Logs
+pub mod Onward
+pub mod InPage
+pub mod LentSteps

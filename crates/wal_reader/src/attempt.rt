@@ -1,0 +1,204 @@
+ghost use Rattle.std.specs.Prelude.{◌≡◌, ◌+◌, ◌-◌, ◌*◌, ◌^◌, ◌<◌, ◌≤◌, ℕ, [], length, Some, None, Ok, Err, IfOk, IfErr, IsOk, IsTrue};
+ghost use Rattle.outside.specs.Faults.{Rose};
+ghost use Rattle.wal_page.specs.Page.{is_segment_size};
+ghost use Rattle.wal_record.specs.Decoded.{head_of, decoded};
+ghost use Rattle.wal_reader.specs.Step as spec;
+ghost use Rattle.wal_reader.specs.Calls.{LogStays, WhereTold, Says, SaysHead, SaysSome, GivesUpPast, text_at, IsThere};
+ghost use Rattle.wal_reader.specs.Records.{SaysGathered, SaysEntry, SaysEnd, IsRead};
+
+use crate::source::Source;
+use crate::types::{EndWhy, Found, Halt, Stop, Trouble};
+use outside::LogBytes;
+use pg_types::{Lsn, u32_at};
+use wal_record::{PrevRule, RecordFault, RecordHead, decode, decode_head};
+
+impl Source {
+    /// Reads the length of the record whose first byte stands at `start`, and answers it with the position
+    /// behind.
+    fn begin<L: LogBytes>(&mut self, log: &mut L, start: u64) -> Result<(u32, u64), Trouble>
+        ensures long { IfOk result (λ part. (24 ≤ part.0) × (part.1 ≤ 2 ^ 63)) }
+        ensures onward { IfOk result (λ part. start < part.1) }
+        ensures given_up { IfErr result (GivesUpPast start) }
+        ensures same { self.new ≡ record self.old { kept = self.new.kept; text = self.new.text } }
+        ensures answer { WhereTold (L.told log.old) (L.owner_of log.old) self.old self.new
+            (λ told. SaysHead result self.new.text (spec.begun told start)) }
+        ensures stays { LogStays (L.told log.old) (L.told log.new) (L.owner_of log.old) (L.owner_of log.new) (L.fault_count log.old) (L.fault_count log.new) }
+        ensures same_log { L.same log.old log.new }
+        ensures cause { result ≡ Err Trouble.Log → Rose (L.fault_count log.old) (L.fault_count log.new) }
+    {
+        self.clear();
+        let at = self.gather(log, None, 4, start)?;
+        let total = length_in(self.text())?;
+        Ok((total, at))
+    }
+
+    /// Reads the length and the header of that record, and tests the header.
+    fn head<L: LogBytes>(
+        &mut self,
+        log: &mut L,
+        start: u64,
+        prev: PrevRule,
+    ) -> Result<(u32, u64), Trouble>
+        ensures long { IfOk result (λ part. (24 ≤ part.0) × (part.1 ≤ 2 ^ 63)) }
+        ensures onward { IfOk result (λ part. start < part.1) }
+        ensures given_up { IfErr result (GivesUpPast start) }
+        ensures same { self.new ≡ record self.old { kept = self.new.kept; text = self.new.text } }
+        ensures answer { WhereTold (L.told log.old) (L.owner_of log.old) self.old self.new
+            (λ told. SaysHead result self.new.text (spec.headed told start prev)) }
+        ensures stays { LogStays (L.told log.old) (L.told log.new) (L.owner_of log.old) (L.owner_of log.new) (L.fault_count log.old) (L.fault_count log.new) }
+        ensures same_log { L.same log.old log.new }
+        ensures cause { result ≡ Err Trouble.Log → Rose (L.fault_count log.old) (L.fault_count log.new) }
+    {
+        let (total, at) = self.begin(log, start)?;
+        let end = self.gather(log, Some(total - 4), 20, at)?;
+        test_head(self.text(), start, prev)?;
+        Ok((total, end))
+    }
+
+    /// Gathers the record whose first byte stands at `start`, and answers where the next record would stand.
+    fn gather_record<L: LogBytes>(
+        &mut self,
+        log: &mut L,
+        start: u64,
+        prev: PrevRule,
+    ) -> Result<u64, Trouble>
+        ensures same { self.new ≡ record self.old { kept = self.new.kept; text = self.new.text } }
+        ensures sound { IfOk result (λ _. IsOk (decoded self.new.text start prev)) }
+        ensures onward { IfOk result (λ end. (start < end) × (end ≤ 2 ^ 63 + 2 ^ 31)) }
+        ensures given_up { IfErr result (GivesUpPast start) }
+        ensures answer { WhereTold (L.told log.old) (L.owner_of log.old) self.old self.new
+            (λ told. SaysGathered result self.new.text start prev (spec.attempt told start prev)) }
+        ensures stays { LogStays (L.told log.old) (L.told log.new) (L.owner_of log.old) (L.owner_of log.new) (L.fault_count log.old) (L.fault_count log.new) }
+        ensures same_log { L.same log.old log.new }
+        ensures cause { result ≡ Err Trouble.Log → Rose (L.fault_count log.old) (L.fault_count log.new) }
+    {
+        let (total, at) = self.head(log, start, prev)?;
+        let behind = self.gather(log, Some(total - 24), (total - 24) as usize, at)?;
+        self.end(start, prev, None, behind)
+    }
+
+    /// Reads the record whose first byte stands at `start`. One that stands whole in a page is not copied.
+    pub fn attempt<L: LogBytes>(
+        &mut self,
+        log: &mut L,
+        start: u64,
+        prev: PrevRule,
+    ) -> Result<Found, Trouble>
+        ensures same { self.new ≡ record self.old { kept = self.new.kept; text = self.new.text } }
+        ensures sound { IfOk result (λ found. IsRead self.new start found.lent prev) }
+        ensures onward { IfOk result (λ found. (start < found.end) × (found.end ≤ 2 ^ 63 + 2 ^ 31)) }
+        ensures given_up { IfErr result (GivesUpPast start) }
+        ensures answer { WhereTold (L.told log.old) (L.owner_of log.old) self.old self.new
+            (λ told. SaysEntry result self.new start prev (spec.attempt told start prev)) }
+        ensures stays { LogStays (L.told log.old) (L.told log.new) (L.owner_of log.old) (L.owner_of log.new) (L.fault_count log.old) (L.fault_count log.new) }
+        ensures same_log { L.same log.old log.new }
+        ensures cause { result ≡ Err Trouble.Log → Rose (L.fault_count log.old) (L.fault_count log.new) }
+    {
+        let found = self.whole(log, start)?;
+        match found {
+            Some(len) => {
+                let end = self.end(start, prev, Some(len), start + len as u64)?;
+                Ok(Found {
+                    end,
+                    lent: Some(len),
+                })
+            }
+            None => {
+                let end = self.gather_record(log, start, prev)?;
+                Ok(Found { end, lent: None })
+            }
+        }
+    }
+
+    /// Where the record's end is whose text ends before `behind`.
+    fn end(
+        &self,
+        start: u64,
+        prev: PrevRule,
+        lent: Option<usize>,
+        behind: u64,
+    ) -> Result<u64, Trouble>
+        requires bounded { behind ≤ 2 ^ 63 }
+        requires there { IsThere self.now start lent }
+        ensures says { SaysEnd result (text_at self.now start lent) start prev self.now.segsize behind }
+        ensures sound { IfOk result (λ _. IsOk (decoded (text_at self.now start lent) start prev)) }
+        ensures onward { IfOk result (λ end. (behind ≤ end) × (end ≤ 2 ^ 63 + 2 ^ 31)) }
+        ensures given_up { IfErr result (λ trouble. (at : ℕ) → GivesUpPast at trouble) }
+        ensures no_log { result ≡ Err Trouble.Log → ⊥ }
+    {
+        match decode(self.text_at(start, lent), Lsn(start), prev) {
+            Ok(view) => Ok(end_of(self.segsize(), view.head(), behind)),
+            Err(fault) => Err(Trouble::Halts(Halt::Stops(stop_of(fault)))),
+        }
+    }
+}
+
+/// The length field.
+fn length_in(bytes: &[u8]) -> Result<u32, Trouble>
+    requires { 4 ≤ length bytes.now }
+    ensures says { Says result (spec.length_in bytes.now) }
+    ensures given_up { IfErr result (λ trouble. (at : ℕ) → GivesUpPast at trouble) }
+    ensures long { IfOk result (λ total. 24 ≤ total) }
+    ensures no_log { result ≡ Err Trouble.Log → ⊥ }
+{
+    match u32_at(bytes, 0) {
+        0 => Err(Trouble::Halts(Halt::Stops(Stop::End(EndWhy::Zero)))),
+        1..=23 => Err(Trouble::Halts(Halt::Stops(Stop::End(EndWhy::Short)))),
+        total => Ok(total),
+    }
+}
+
+/// A record's fault as a rule of the log.
+fn stop_of(fault: RecordFault) -> Stop
+    ensures { result ≡ spec.stop_of fault }
+{
+    match fault {
+        RecordFault::Zero => Stop::End(EndWhy::Zero),
+        RecordFault::Short => Stop::End(EndWhy::Short),
+        RecordFault::Manager => Stop::End(EndWhy::Manager),
+        RecordFault::Prev => Stop::End(EndWhy::Prev),
+        RecordFault::TooLong => Stop::TooLong,
+        RecordFault::Crc => Stop::End(EndWhy::Crc),
+        RecordFault::Layout => Stop::End(EndWhy::Layout),
+        RecordFault::Compressed => Stop::Compressed,
+    }
+}
+
+/// Tests the header at the front of the bytes.
+fn test_head(bytes: &[u8], start: u64, prev: PrevRule) -> Result<(), Trouble>
+    ensures says { SaysSome result (spec.unless_faulty (head_of bytes.now start prev)) }
+    ensures given_up { IfErr result (λ trouble. (at : ℕ) → GivesUpPast at trouble) }
+    ensures no_log { result ≡ Err Trouble.Log → ⊥ }
+{
+    match decode_head(bytes, Lsn(start), prev) {
+        Ok(_) => Ok(()),
+        Err(fault) => Err(Trouble::Halts(Halt::Stops(stop_of(fault)))),
+    }
+}
+
+/// The position at which the record's end is, where its last byte stands right before `behind`.
+#[tactic(auto, unfolding(crate::specs::Step::end_after, wal_page::specs::Page::is_segment_size))]
+fn end_of(segsize: u32, head: RecordHead, behind: u64) -> u64
+    requires allowed { IsTrue (is_segment_size segsize) }
+    requires bounded { behind ≤ 2 ^ 63 }
+    ensures value { result ≡ spec.end_after segsize head behind }
+    ensures onward { behind ≤ result }
+    ensures near { result ≤ 2 ^ 63 + 2 ^ 31 }
+{
+    let end = rounded_up(8, behind);
+    if head.manager == 0 && head.info & 0xF0 == 0x40 {
+        rounded_up(u64::from(segsize), end)
+    } else {
+        end
+    }
+}
+
+fn rounded_up(unit: u64, at: u64) -> u64
+    requires some { 0 < unit }
+    requires bounded { at + unit ≤ 2 ^ 64 }
+    ensures value { result ≡ spec.rounded_up unit at }
+    ensures onward { at ≤ result }
+    ensures near { result < at + unit }
+{
+    (at + (unit - 1)) / unit * unit
+}

@@ -1,0 +1,133 @@
+ghost use Rattle.std.specs.Prelude.{◌≡◌};
+
+use pg_types::{Fail, Lsn};
+use thiserror::Error;
+use wal_record::PrevRule;
+
+/// The rule that is the log's end (`ReadRecord`, xlogrecovery.c), in the order in which they are tried.
+#[derive(Clone, Copy, Debug, PartialEq, Eq)]
+pub enum EndWhy {
+    /// The bytes that are needed next are not told.
+    Missing,
+    /// A page's header has a fault, or the page does not go on with the record.
+    Page,
+    /// The length is 0.
+    Zero,
+    /// The length is below a header's.
+    Short,
+    /// The resource manager is unknown.
+    Manager,
+    /// The link is not to the record before.
+    Prev,
+    /// The CRC is wrong.
+    Crc,
+    /// The parts do not fill the record, or another record stands in the place of one that was given up.
+    Layout,
+}
+
+/// Why no record is read at a position: the log ends there, or its record is refused.
+#[derive(Clone, Copy, Debug, PartialEq, Eq)]
+pub enum Stop {
+    End(EndWhy),
+    /// A page image is compressed.
+    Compressed,
+    /// The record is longer than 64 MiB.
+    TooLong,
+}
+
+/// Why a record's text is not gathered on: for good, or since the page that should go on with it says
+/// that it was given up, and that another record begins at `place`.
+#[derive(Clone, Copy, Debug, PartialEq, Eq)]
+pub enum Halt {
+    Stops(Stop),
+    GivesUp { place: u64 },
+}
+
+/// What stands at the reader's position.
+#[derive(Clone, Copy, Debug, PartialEq, Eq)]
+pub enum Next {
+    /// A record: the position of its first byte, and the one where the next record would stand.
+    Record { start: Lsn, end: Lsn },
+    /// The log's end.
+    AtEnd { lsn: Lsn, why: EndWhy },
+}
+
+/// Why the reader gives no answer. It stands where it stood.
+#[derive(Clone, Copy, Debug, PartialEq, Eq, Error)]
+pub enum ReadFault {
+    #[error("the log failed")]
+    Log,
+    #[error("a page image is compressed")]
+    Compressed { lsn: Lsn },
+    #[error("the record is longer than 64 MiB")]
+    TooLong { lsn: Lsn },
+    #[error("out of memory")]
+    Memory,
+}
+
+/// Why a step of the reader gives no answer.
+#[derive(Clone, Copy, Debug, PartialEq, Eq)]
+pub enum Trouble {
+    Halts(Halt),
+    /// The log failed.
+    Log,
+    /// Memory ran out.
+    Memory,
+}
+
+impl From<Fail> for Trouble {
+    ghost use Rattle.wal_reader.specs.Calls.{trouble_of};
+
+    ghost from_gives = { λ fail trouble. trouble ≡ trouble_of fail };
+
+    fn from(fail: Fail) -> Trouble {
+        match fail {
+            Fail::Failed => Trouble::Log,
+            Fail::Memory => Trouble::Memory,
+        }
+    }
+}
+
+/// Why no record is given.
+#[derive(Clone, Copy, Debug, PartialEq, Eq)]
+pub enum Refusal {
+    Stops(Stop),
+    /// The log failed.
+    Log,
+    /// Memory ran out.
+    Memory,
+}
+
+/// What came of the attempt to read a record.
+#[derive(Clone, Copy, Debug, PartialEq, Eq)]
+pub enum Attempted {
+    Read(Found),
+    /// The record was given up, and another one begins at `place`.
+    GivenUp { place: u64 },
+    Refused(Refusal),
+}
+
+/// The record last given: where it begins, where the next one would stand, and its rule for the link.
+#[derive(Clone, Copy, Debug, PartialEq, Eq)]
+pub struct Given {
+    pub start: Lsn,
+    pub end: Lsn,
+    pub link: PrevRule,
+}
+
+/// A record that was read at a position: where it begins, where the next one would stand, and its length
+/// where it stands whole among the bytes that are kept.
+#[derive(Clone, Copy, Debug, PartialEq, Eq)]
+pub struct Taken {
+    pub start: u64,
+    pub end: u64,
+    pub lent: Option<usize>,
+}
+
+/// A record that was read: where the next one would stand, and its length where it stands whole among
+/// the bytes that are kept.
+#[derive(Clone, Copy, Debug, PartialEq, Eq)]
+pub struct Found {
+    pub end: u64,
+    pub lent: Option<usize>,
+}
