@@ -1,0 +1,2 @@
+pub mod RowLoop
+pub mod TupleFacts

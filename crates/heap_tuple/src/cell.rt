@@ -1,0 +1,94 @@
+ghost use Rattle.std.specs.Prelude.{◌≡◌, [], ◌∷◌, ◌++◌, IfOk, OnOk, OnErr};
+
+use pg_types::{Bytes, NoMemory};
+use std::alloc::Global;
+use std::marker::Model;
+
+/// The types of column that are described. `Raw4` and `Raw8` are values of that many bytes which are
+/// shown as they are stored.
+#[derive(Clone, Copy, Debug, PartialEq, Eq)]
+pub enum Kind {
+    Bool,
+    Int2,
+    Int4,
+    Int8,
+    Oid,
+    Uuid,
+    Text,
+    Bytea,
+    Raw4,
+    Raw8,
+}
+
+/// One value of a row. `Int` has the integers and `Oid`; `Bytes` has the bytes of a text or a bytea
+/// without their header, and those of a uuid or a raw value as they are stored.
+#[derive(Debug, Drop)]
+pub enum Cell {
+    Null,
+    Bool(bool),
+    Int(i64),
+    Bytes(Bytes),
+}
+
+impl Cell {
+    /// The same cell, with memory of its own.
+    pub fn copy(&self, alloc: Global) -> Result<Cell, NoMemory>
+        ensures { IfOk result (λ cell. cell ≡ self.now) }
+    {
+        match self {
+            Cell::Null => Ok(Cell::Null),
+            Cell::Bool(truth) => Ok(Cell::Bool(*truth)),
+            Cell::Int(number) => Ok(Cell::Int(*number)),
+            Cell::Bytes(bytes) => Ok(Cell::Bytes(Bytes::from_slice(alloc, bytes.as_slice())?)),
+        }
+    }
+}
+
+/// A described column: its type, and the value that it has in tuples that were written before the
+/// column was added; `None` is null.
+#[derive(Debug, Drop)]
+pub struct Column {
+    pub kind: Kind,
+    pub missing: Option<Cell>,
+}
+
+/// The cells of a row, one for each described column. Contracts see it as their list.
+#[derive(Debug, Drop)]
+pub struct Row {
+    cells: Vec<Cell>,
+}
+
+impl Model for Row {
+    ghost use Rattle.std.specs.Prelude.{List};
+    ghost use Rattle.heap_tuple.specs.declared.cell.Cell.{Cell};
+
+    ghost Value = { List Cell };
+
+    ghost view = { λ r. r.cells.items };
+}
+
+impl Row {
+    /// No cells, and no memory taken.
+    pub fn new(alloc: Global) -> Row
+        ensures { result ≡ [] }
+    {
+        Row {
+            cells: Vec::new(alloc),
+        }
+    }
+
+    /// Puts a cell behind those that are there.
+    pub fn push(&mut self, cell: Cell) -> Result<(), NoMemory>
+        ensures ok { OnOk result (self.new ≡ self.old ++ cell ∷ []) }
+        ensures err { OnErr result (self.new ≡ self.old) }
+    {
+        self.cells.push(cell)?;
+        Ok(())
+    }
+
+    pub fn cells(&self) -> &[Cell]
+        ensures { result.now ≡ self.now }
+    {
+        self.cells.as_slice()
+    }
+}
