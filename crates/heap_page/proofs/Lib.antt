@@ -1,0 +1,9 @@
+pub mod Changes
+pub mod Header
+pub mod Restored
+pub mod Kept
+pub mod Laid
+pub mod LineLists
+pub mod Overwrite
+pub mod Rooms
+pub mod Written

@@ -1,0 +1,23 @@
+//! Pages of a heap. Contracts see of a page the position of the record that changed it last, and the
+//! list of its items; where a tuple stands in the page is not seen.
+#![tactic(auto)]
+
+mod bytes;
+mod change;
+mod image;
+mod laws;
+mod line;
+mod page;
+mod pointer;
+mod room;
+mod rule;
+
+pub use change::{put, set_head};
+pub use image::restore;
+pub use laws::{items_end_in_use, one_line_changes, tuples_keep_their_rule, zeros_have_no_items};
+pub use line::{Item, LineState, Page, PageError};
+pub use page::{init, item, lines, lsn, set_line, set_lsn};
+pub use rule::check;
+
+#[cfg(test)]
+mod tests;

@@ -1,0 +1,129 @@
+ghost use Rattle.std.specs.Prelude.{◌≡◌, ◌+◌, ◌<◌, IsTrue};
+ghost use Rattle.heap_page.specs.Item.{aligned};
+ghost use Rattle.heap_page.specs.Page.{pointer_of, line_count, is_zeros, is_header, is_placed, are_apart, all_below, is_laid, is_page};
+
+use crate::line::Page;
+use crate::pointer::{NORMAL, Pointer, line_count, pointer_at};
+use heap_tuple::is_tuple;
+use pg_types::u16_at;
+
+/// Whether the block keeps the page rule: all of it is zero, or it has the header of a heap page, each
+/// line that points to a tuple points to one at a multiple of 8 in the upper part, and no two of these
+/// overlap.
+#[tactic(auto, using(std::proofs::lemmas::Bool::Decides::nat_tests), unfolding(crate::specs::Page::is_page))]
+pub fn check(page: &Page) -> bool
+    ensures { result ≡ is_page page.now }
+{
+    is_zeros(page) || is_laid(page)
+}
+
+/// Whether each byte is zero.
+fn is_zeros(page: &Page) -> bool
+    ensures { result ≡ is_zeros page.now }
+{
+    page.iter().all(|byte| *byte == 0)
+}
+
+/// Whether the block is laid out as a heap page.
+#[tactic(auto, unfolding(crate::specs::Page::is_laid))]
+fn is_laid(page: &Page) -> bool
+    ensures { result ≡ is_laid page.now }
+{
+    is_header(page) && lines_are_placed(page) && lines_are_apart(page)
+}
+
+/// Whether the header is that of a heap page.
+#[tactic(auto, using(std::proofs::lemmas::Bool::Decides::nat_tests), unfolding(crate::specs::Page::is_header))]
+fn is_header(page: &Page) -> bool
+    ensures { result ≡ is_header page.now }
+{
+    let lower = u16_at(page, 12);
+    let upper = u16_at(page, 14);
+    u16_at(page, 18) == 0x2004
+        && u16_at(page, 16) == 8192
+        && 24 <= lower
+        && lower <= upper
+        && upper <= 8192
+        && lower % 4 == 0
+}
+
+/// Whether a line, if it points to a tuple, points to one in the upper part.
+#[tactic(auto, using(std::proofs::lemmas::Bool::Decides::nat_tests), unfolding(crate::specs::Page::is_placed))]
+fn is_placed(page: &Page, k: usize) -> bool
+    requires { k < 2042 }
+    ensures { result ≡ is_placed page.now (pointer_of page.now k) }
+{
+    let pointer = pointer_at(page, k);
+    if pointer.state != NORMAL {
+        return true;
+    }
+    let start = pointer.offset as usize;
+    let end = start + pointer.length as usize;
+    if start % 8 != 0 || start < u16_at(page, 14) as usize || 8192 < end {
+        return false;
+    }
+    is_tuple(&page[start..end])
+}
+
+/// Whether each line is placed.
+fn lines_are_placed(page: &Page) -> bool
+    requires { IsTrue (is_header page.now) }
+    ensures { result ≡ all_below (λ k. is_placed page.now (pointer_of page.now k)) (line_count page.now) }
+{
+    for k in 0..line_count(page) {
+        if !is_placed(page, k) {
+            return false;
+        }
+    }
+    true
+}
+
+/// The end of a tuple's room.
+fn end_of_room(pointer: Pointer) -> usize
+    ensures { result ≡ pointer.offset + aligned pointer.length }
+{
+    pointer.offset as usize + (pointer.length as usize + 7) / 8 * 8
+}
+
+/// Whether two lines do not point to tuples of which the rooms overlap.
+#[tactic(auto, using(std::proofs::lemmas::Bool::Decides::nat_tests), unfolding(crate::specs::Page::are_apart))]
+fn are_apart(page: &Page, j: usize, k: usize) -> bool
+    requires first { j < 2042 }
+    requires second { k < 2042 }
+    ensures { result ≡ are_apart (pointer_of page.now j) (pointer_of page.now k) }
+{
+    let a = pointer_at(page, j);
+    let b = pointer_at(page, k);
+    if a.state != NORMAL || b.state != NORMAL {
+        return true;
+    }
+    end_of_room(a) <= b.offset as usize || end_of_room(b) <= a.offset as usize
+}
+
+/// Whether a line is apart from each one before it.
+fn is_apart_from_earlier(page: &Page, k: usize) -> bool
+    requires { k < 2042 }
+    ensures { result ≡ all_below (λ j. are_apart (pointer_of page.now j) (pointer_of page.now k)) k }
+{
+    for j in 0..k {
+        if !are_apart(page, j, k) {
+            return false;
+        }
+    }
+    true
+}
+
+/// Whether each two lines are apart.
+fn lines_are_apart(page: &Page) -> bool
+    requires { IsTrue (is_header page.now) }
+    ensures { result ≡ all_below
+        (λ k. all_below (λ j. are_apart (pointer_of page.now j) (pointer_of page.now k)) k)
+        (line_count page.now) }
+{
+    for k in 0..line_count(page) {
+        if !is_apart_from_earlier(page, k) {
+            return false;
+        }
+    }
+    true
+}
