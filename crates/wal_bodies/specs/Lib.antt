@@ -1,0 +1,9 @@
+pub mod Fields
+pub mod Kinds
+pub mod HeapKinds
+pub mod Tuples
+pub mod Typed
+pub mod Xids
+pub mod Heads
+pub mod After
+pub mod Laws

@@ -1,0 +1,149 @@
+-- The typed form of a record, or why it is refused.
+use Rattle.std.specs.Prelude.{ℕ, zero, suc, ◌+◌, ◌==◌, Bool, false, bit_and, ◌||◌, nat_le, List, [], ◌∷◌, ◌++◌, Option, Some, None, option_map, Result, Ok, Err, if◌then◌else◌}
+use Rattle.std.specs.List.{list_any}
+use Rattle.pg_types.specs.declared.names.Locator.{Locator}
+use Rattle.pg_types.specs.declared.names.Lsn.{Lsn}
+use Rattle.pg_types.specs.declared.names.Xid.{Xid}
+use Rattle.wal_record.specs.declared.types.RecordHead.{RecordHead}
+use Rattle.wal_record.specs.Record.{Image, Block, Record}
+use Rattle.wal_bodies.specs.declared.refusal.Refusal.{Refusal}
+use Rattle.wal_bodies.specs.declared.refusal.Refusal.TheVariants.{Length, Unsupported, Memory as NoRoom}
+use Rattle.wal_bodies.specs.declared.types.What.TheVariants.{Epoch}
+use Rattle.wal_bodies.specs.declared.types.BodyFault.{BodyFault}
+use Rattle.wal_bodies.specs.declared.types.BodyFault.TheVariants.{Length as LengthAt, Unsupported as UnsupportedAt, Memory}
+use Rattle.wal_record.specs.declared.new.NewImage.{NewImage}
+use Rattle.wal_bodies.specs.declared.types.NewTuple.{NewTuple}
+use Rattle.wal_bodies.specs.declared.types.RecBlock.{RecBlock}
+use Rattle.wal_bodies.specs.declared.types.Rec.{Rec}
+use Rattle.wal_bodies.specs.declared.types.RecKind.{RecKind}
+use Rattle.wal_bodies.specs.declared.types.RecKind.TheVariants.{Checkpoint, BackupEnd, Parameters, FullPageWrites, Images, Overwrite, Ended, Running, Insert, Delete, Update, Confirm, Lock, MultiInsert, LockUpdated, Other}
+use Rattle.wal_bodies.specs.Fields.{◌>>=◌, main_block}
+use Rattle.wal_bodies.specs.Kinds.{kind_of}
+use Rattle.wal_bodies.specs.Tuples.{tuples_of}
+
+-- redo of this kind changes blocks whose id is below this number
+unfoldable pub ids_of : RecKind → ℕ
+ids_of (Checkpoint redo timeline previous writes next multi member oldest active) = 0
+ids_of (BackupEnd start) = 0
+ids_of (Parameters connections processes senders prepared locks level) = 0
+ids_of (FullPageWrites on) = 0
+ids_of Images = 33
+ids_of (Overwrite given_up time) = 0
+ids_of (Ended time xinfo xids) = 0
+ids_of (Running tops subs overflow next oldest latest xids) = 0
+ids_of (Insert line flags) = 1
+ids_of (Delete xmax line bits flags) = 1
+ids_of (Update old_xmax old_line old_bits flags new_xmax new_line) = 2
+ids_of (Confirm line) = 1
+ids_of (Lock xmax line bits flags) = 1
+ids_of (MultiInsert flags lines) = 1
+ids_of (LockUpdated xmax line bits flags) = 1
+ids_of Other = 0
+
+-- an image of its own
+abbrev pub image_of : Image → NewImage
+image_of image = record { apply = image.apply; hole_at = image.hole_at; bytes = image.bytes }
+
+-- a block with these tuples
+abbrev pub block_with : List NewTuple → Block → RecBlock
+block_with tuples block = record {
+  id = block.id;
+  locator = block.locator;
+  block = block.block;
+  will_init = block.will_init;
+  image = option_map image_of block.image;
+  tuples = tuples;
+}
+
+-- the block with these tuples, if it is there
+abbrev pub listed_block : List NewTuple → Option Block → List RecBlock
+listed_block tuples None = []
+listed_block tuples (Some block) = block_with tuples block ∷ []
+
+-- the n blocks from this id on that are there, without tuples
+unfoldable pub blocks_from : Record → ℕ → ℕ → List RecBlock
+blocks_from rec id zero = []
+blocks_from rec id (suc n) = listed_block [] (main_block id rec) ++ blocks_from rec (id + 1) n
+
+-- the blocks whose id is below this number; the tuples are those of block 0
+unfoldable pub blocks_of : ℕ → List NewTuple → Record → List RecBlock
+blocks_of zero tuples rec = []
+blocks_of (suc n) tuples rec = listed_block tuples (main_block 0 rec) ++ blocks_from rec 1 n
+
+-- the greatest transaction id, which ends the first epoch, or one past it
+abbrev pub is_last : Xid → Bool
+is_last xid = nat_le 4294967295 xid.0
+
+-- the transactions that a record of this kind lists as ended
+abbrev pub ended_in : RecKind → List Xid
+ended_in (Checkpoint redo timeline previous writes next multi member oldest active) = []
+ended_in (BackupEnd start) = []
+ended_in (Parameters connections processes senders prepared locks level) = []
+ended_in (FullPageWrites on) = []
+ended_in Images = []
+ended_in (Overwrite given_up time) = []
+ended_in (Ended time xinfo xids) = xids
+ended_in (Running tops subs overflow next oldest latest xids) = []
+ended_in (Insert line flags) = []
+ended_in (Delete xmax line bits flags) = []
+ended_in (Update old_xmax old_line old_bits flags new_xmax new_line) = []
+ended_in (Confirm line) = []
+ended_in (Lock xmax line bits flags) = []
+ended_in (MultiInsert flags lines) = []
+ended_in (LockUpdated xmax line bits flags) = []
+ended_in Other = []
+
+-- the record names the last transaction id in its header or in a list of ended ones
+abbrev pub names_last : RecordHead → RecKind → Bool
+names_last head kind = is_last head.xid || list_any is_last (ended_in kind)
+
+-- what is read of a record, for the described database and the described tables
+unfoldable pub read_as : Record → ℕ → List Locator → Result (RecKind × List RecBlock) Refusal
+read_as rec database known = do
+  kind ← kind_of rec database known
+  tuples ← tuples_of kind rec
+  if names_last rec.head kind then Err (Unsupported Epoch)
+      else Ok (kind, blocks_of (ids_of kind) tuples rec)
+
+-- a refusal of the record that begins here
+abbrev pub fault_at : Lsn → Refusal → BodyFault
+fault_at start Length = LengthAt start
+fault_at start (Unsupported what) = UnsupportedAt start what
+fault_at start NoRoom = Memory
+
+abbrev pub formed : RecordHead → Lsn → Lsn → Result (RecKind × List RecBlock) Refusal → Result Rec BodyFault
+formed head start end (Ok x) = Ok (record { head = head; start = start; end = end; kind = x.0; blocks = x.1 })
+formed head start end (Err refusal) = Err (fault_at start refusal)
+
+-- The typed form of a record that begins and ends at these positions, or the one answer why it has none.
+unfoldable pub typed : Record → Lsn → Lsn → ℕ → List Locator → Result Rec BodyFault
+typed rec start end database known = formed rec.head start end (read_as rec database known)
+
+-- the record ends a transaction, and as a commit does (XLOG_XACT_COMMIT)
+abbrev pub is_commit : RecordHead → RecKind → Bool
+is_commit head (Checkpoint redo timeline previous writes next multi member oldest active) = false
+is_commit head (BackupEnd start) = false
+is_commit head (Parameters connections processes senders prepared locks level) = false
+is_commit head (FullPageWrites on) = false
+is_commit head Images = false
+is_commit head (Overwrite given_up time) = false
+is_commit head (Ended time xinfo xids) = bit_and head.info 0x70 == 0x00
+is_commit head (Running tops subs overflow next oldest latest xids) = false
+is_commit head (Insert line flags) = false
+is_commit head (Delete xmax line bits flags) = false
+is_commit head (Update old_xmax old_line old_bits flags new_xmax new_line) = false
+is_commit head (Confirm line) = false
+is_commit head (Lock xmax line bits flags) = false
+is_commit head (MultiInsert flags lines) = false
+is_commit head (LockUpdated xmax line bits flags) = false
+is_commit head Other = false
+
+-- the image that the typed form keeps
+abbrev pub kept_image : NewImage → Image
+kept_image image = record { apply = image.apply; hole_at = image.hole_at; bytes = image.bytes }
+
+-- the image of the block with this id
+abbrev pub image_with_id : ℕ → List RecBlock → Option Image
+image_with_id id [] = None
+image_with_id id (block ∷ blocks) =
+    if block.id == id then option_map kept_image block.image else image_with_id id blocks

@@ -1,0 +1,23 @@
+//! WAL records in typed form: what the main data and the blocks of a record say, by its resource
+//! manager and its info (xlogrecord.h; the record structs of each manager, as heapam_xlog.h).
+#![tactic(auto)]
+
+mod fields;
+mod heap;
+mod lists;
+mod rec;
+mod refusal;
+mod running;
+mod tuples;
+mod typed;
+mod types;
+mod xact;
+mod xlog;
+
+pub use lists::{Lines, NewTuples, RecBlocks};
+pub use rec::one_form;
+pub use typed::body;
+pub use types::{BodyFault, NewTuple, Rec, RecBlock, RecKind, What};
+
+#[cfg(test)]
+mod tests;

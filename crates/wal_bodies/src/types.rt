@@ -1,0 +1,213 @@
+use crate::lists::{Lines, NewTuples, RecBlocks};
+use pg_types::{Bytes, Locator, Lsn, NoMemory, Tli, Xid, XidList};
+use thiserror::Error;
+use wal_record::{NewImage, RecordHead};
+
+/// A record in typed form.
+#[derive(Debug, Drop)]
+pub struct Rec {
+    /// The record's header. Its info tells apart the kinds that share a variant of `RecKind`.
+    pub head: RecordHead,
+    /// Where the record begins.
+    pub start: Lsn,
+    /// Where it ends: one past its last byte, rounded up to a multiple of 8.
+    pub end: Lsn,
+    pub kind: RecKind,
+    /// The blocks of the main fork that redo of this kind changes, by rising id.
+    pub blocks: RecBlocks,
+}
+
+/// What a record's main data says. The fields of a variant stand in the order of the record's own.
+#[derive(Debug, Drop)]
+pub enum RecKind {
+    /// A checkpoint (`CheckPoint`, pg_control.h): at shutdown (info 0x00) or online (0x10).
+    Checkpoint {
+        /// Where redo begins.
+        redo: Lsn,
+        timeline: Tli,
+        /// The timeline before, where this record begins a new one.
+        previous: Tli,
+        full_page_writes: bool,
+        /// The next transaction id.
+        next: Xid,
+        next_multi: u32,
+        /// The next offset of a multixact's members.
+        next_member: u32,
+        oldest_multi: u32,
+        /// The oldest id of an active transaction.
+        oldest_active: Xid,
+    },
+    /// The end of a base backup that began at this position.
+    BackupEnd {
+        start: Lsn,
+    },
+    /// The server's parameters (`xl_parameter_change`, xlog_internal.h).
+    Parameters {
+        max_connections: i32,
+        max_worker_processes: i32,
+        max_wal_senders: i32,
+        max_prepared_transactions: i32,
+        max_locks_per_transaction: i32,
+        /// 0 minimal, 1 replica, 2 logical.
+        wal_level: i32,
+    },
+    /// Full page writes were turned on or off; a record that says off is refused.
+    FullPageWrites {
+        on: bool,
+    },
+    /// Images of blocks, which are in `blocks` (info 0xA0 and 0xB0).
+    Images,
+    /// A record that was begun and given up (`xl_overwrite_contrecord`, xlog_internal.h).
+    Overwrite {
+        /// Where the record that was given up begins.
+        given_up: Lsn,
+        /// Microseconds from the beginning of the year 2000.
+        time: i64,
+    },
+    /// The end of a transaction (`xl_xact_commit` and `xl_xact_abort`, xact.h): `info & 0x70` is 0x00
+    /// at a commit and 0x20 at an abort. The transaction is the header's.
+    Ended {
+        /// Microseconds from the beginning of the year 2000.
+        time: i64,
+        /// Which further parts the record has, 0 where it says nothing of them.
+        xinfo: u32,
+        /// The transaction's subtransactions.
+        xids: XidList,
+    },
+    /// The transactions that are running (`xl_running_xacts`, standbydefs.h).
+    Running {
+        /// How many of the ids are top-level ones.
+        tops: u32,
+        /// How many are subtransactions.
+        subs: u32,
+        /// Subtransactions may be missing.
+        overflow: bool,
+        next: Xid,
+        oldest: Xid,
+        /// The latest id that ended.
+        latest: Xid,
+        xids: XidList,
+    },
+    /// A tuple is inserted at this line of block 0 (`xl_heap_insert`).
+    Insert {
+        line: u16,
+        flags: u8,
+    },
+    /// The tuple at this line of block 0 is deleted (`xl_heap_delete`).
+    Delete {
+        xmax: u32,
+        line: u16,
+        bits: u8,
+        flags: u8,
+    },
+    /// A new tuple in block 0 replaces an old one, in block 1 where there is one (`xl_heap_update`):
+    /// `info & 0x70` is 0x20, or 0x40 where the new tuple is heap-only.
+    Update {
+        old_xmax: u32,
+        old_line: u16,
+        old_bits: u8,
+        flags: u8,
+        new_xmax: u32,
+        new_line: u16,
+    },
+    /// A speculative insertion stands (`xl_heap_confirm`).
+    Confirm {
+        line: u16,
+    },
+    /// The tuple at this line of block 0 is locked (`xl_heap_lock`).
+    Lock {
+        xmax: u32,
+        line: u16,
+        bits: u8,
+        flags: u8,
+    },
+    /// Tuples are inserted into block 0, each at its line (`xl_heap_multi_insert`). Where the block is
+    /// made anew these are the lines from 1 on.
+    MultiInsert {
+        flags: u8,
+        lines: Lines,
+    },
+    /// A tuple that was updated is locked too (`xl_heap_lock_updated`).
+    LockUpdated {
+        xmax: u32,
+        line: u16,
+        bits: u8,
+        flags: u8,
+    },
+    /// A record that a standby of one database passes over.
+    Other,
+}
+
+/// A block that redo changes.
+#[derive(Debug, Drop)]
+pub struct RecBlock {
+    /// The block's id in the record.
+    pub id: u8,
+    pub locator: Locator,
+    pub block: u32,
+    /// The page is made anew before the change.
+    pub will_init: bool,
+    pub image: Option<NewImage>,
+    /// The tuples that the record puts into the block. None beside an image that is to be applied,
+    /// which shows them.
+    pub tuples: NewTuples,
+}
+
+/// A tuple by what a record holds of it (`xl_heap_header`, heapam_xlog.h).
+#[derive(Debug, Drop)]
+pub struct NewTuple {
+    /// The infomask2: number of columns, and flags.
+    pub mask2: u16,
+    /// The infomask.
+    pub mask: u16,
+    /// Where the user data begins, counted from the tuple's begin.
+    pub hoff: u8,
+    /// How many bytes of user data are as the old tuple's first ones.
+    pub prefix: u16,
+    /// How many are as its last ones.
+    pub suffix: u16,
+    /// The rest, from the tuple's byte 23 on, without the bytes of `prefix` and `suffix`.
+    pub rest: Bytes,
+}
+
+/// Why a record is not applied.
+#[derive(Clone, Copy, Debug, PartialEq, Eq, Error)]
+pub enum BodyFault {
+    /// Main data or block data is shorter than the kind needs, a count is below 0, or block 0 is missing.
+    #[error("the record's body is too short")]
+    Length { lsn: Lsn },
+    #[error("the record is of a kind that is not supported")]
+    Unsupported { lsn: Lsn, what: What },
+    #[error("out of memory")]
+    Memory,
+}
+
+/// What this standby does not support.
+#[derive(Clone, Copy, Debug, PartialEq, Eq)]
+pub enum What {
+    /// Two-phase commit.
+    Prepared,
+    /// A change of a described table's tuple in its place.
+    InPlace,
+    /// A `wal_level` of minimal.
+    Minimal,
+    /// `full_page_writes` that are off.
+    PageWrites,
+    /// The described database is made or dropped.
+    Database,
+    /// A transaction id at or past the end of the first epoch.
+    Epoch,
+    /// A kind that is not built yet.
+    NotYet,
+}
+
+impl From<NoMemory> for BodyFault {
+    ghost use Rattle.std.specs.Prelude.{◌≡◌};
+    ghost use Rattle.wal_bodies.specs.declared.types.BodyFault.TheVariants.{Memory};
+
+    ghost from_gives = { λ _ fault. fault ≡ Memory };
+
+    fn from(_: NoMemory) -> BodyFault {
+        BodyFault::Memory
+    }
+}
