@@ -1,0 +1,106 @@
+-- Tuples that go to several lines, and the bytes of a new version.
+use Rattle.std.proofs.Common.{arith, ap, sym, refl, ◌∙◌, ◌++◌, ◌∷◌, [], ◌+◌, ◌-◌, ◌≡◌, ◌≤◌, ◌<◌, inl, inr, min, get_or, ℕ, suc, List, length, take, drop, Ok, Err}
+use Rattle.std.proofs.Math.Seq.{drop-cons, take-append-add}
+use Rattle.std.proofs.lemmas.Bool.{cases_lt}
+use Rattle.std.proofs.lemmas.List.{take_min, take_all, length-take, length-drop, get_or_default, take-append-le, take-take, drop_all}
+use Rattle.heap_page.specs.Item.{Item}
+use Rattle.wal_bodies.specs.declared.types.NewTuple.{NewTuple}
+use Rattle.wal_bodies.specs.After.{BlockRefusal, put, put_listed, tuple_of, joined}
+
+-- the end of a text, from where the first part ends on
+pub take-append_more : {X : Type 0} → (n : ℕ) (xs ys : List X) → length xs ≤ n → take n (xs ++ ys) ≡ xs ++ take (n - length xs) ys
+take-append_more n xs ys h =
+    ap (λ m. take m (xs ++ ys)) (omega arith) ∙ take-append-add xs ys (n - length xs)
+
+pub take-cut : {X : Type 0} → (n : ℕ) (xs ys : List X) → take n (take n xs ++ ys) ≡ take n (xs ++ ys)
+take-cut n xs ys =
+    elim (cases_lt (length xs) n) [
+      | inl short ↦ ap (λ zs. take n (zs ++ ys)) (take_all n xs (omega arith))
+      | inr long ↦ take-append-le n (take n xs) ys (omega (arith, length-take n xs)) ∙ take-take n n xs (omega arith) ∙ sym (take-append-le n xs ys long)
+    ]
+
+-- what fits behind the first bytes
+pub appended : (at n : ℕ) (bytes part : List ℕ) → length bytes ≡ at → at ≤ n → bytes ++ take (min (length part) (n - at)) part ≡ take n (bytes ++ part)
+appended at n bytes part e h =
+    ap (λ l. bytes ++ l) (ap (λ m. take m part) (omega arith) ∙ take_min (n - length bytes) part)
+    ∙ sym (take-append_more n bytes part (omega arith))
+
+-- an element that was read, and those behind it
+pub drop-first : {X : Type 0} → (xs : List X) (k : ℕ) (x : X) → k < length xs → x ≡ get_or xs k x → drop k xs ≡ x ∷ drop (k + 1) xs
+drop-first xs k x h e =
+    let next : suc k ≡ k + 1 = omega arith in
+    drop-cons xs k x h ∙ ap (λ y. y ∷ drop (suc k) xs) (sym e) ∙ ap (λ n. x ∷ drop n xs) next
+
+module _ (xid block : ℕ) where
+  listed-cons : (line : ℕ) (lines : List ℕ) (tuple : NewTuple) (tuples : List NewTuple) (items next : List Item) → put line (tuple_of xid 0 block line tuple tuple.rest) items ≡ Ok next → put_listed xid block (line ∷ lines) (tuple ∷ tuples) items ≡ put_listed xid block lines tuples next
+  unfolding put_listed
+  listed-cons line lines tuple tuples items next done = rw done refl
+
+  listed-cons_refused : (line : ℕ) (lines : List ℕ) (tuple : NewTuple) (tuples : List NewTuple) (items : List Item) (refusal : BlockRefusal) → put line (tuple_of xid 0 block line tuple tuple.rest) items ≡ Err refusal → put_listed xid block (line ∷ lines) (tuple ∷ tuples) items ≡ Err refusal
+  unfolding put_listed
+  listed-cons_refused line lines tuple tuples items refusal done = rw done refl
+
+  listed-none : (lines : List ℕ) (tuples : List NewTuple) (items : List Item) → tuples ≡ [] → put_listed xid block lines tuples items ≡ Ok items
+  unfolding put_listed
+  listed-none [] tuples items e = refl
+  listed-none (line ∷ lines) [] items e = refl
+  listed-none (line ∷ lines) (tuple ∷ tuples) items e = cc
+
+  listed-no_lines : (lines : List ℕ) (tuples : List NewTuple) (items : List Item) → lines ≡ [] → put_listed xid block lines tuples items ≡ Ok items
+  unfolding put_listed
+  listed-no_lines [] tuples items e = refl
+  listed-no_lines (line ∷ lines) tuples items e = cc
+
+  -- the next line takes the next tuple
+  pub listed-next : (lines : List ℕ) (tuples : List NewTuple) (k line : ℕ) (tuple : NewTuple) (items next : List Item) → k < length lines → k < length tuples → line ≡ get_or lines k line → tuple ≡ get_or tuples k tuple → Ok next ≡ put line (tuple_of xid 0 block line tuple tuple.rest) items → put_listed xid block (drop (k + 1) lines) (drop (k + 1) tuples) next ≡ put_listed xid block (drop k lines) (drop k tuples) items
+  listed-next lines tuples k line tuple items next in_lines in_tuples l t done =
+      sym (
+      ap (λ ls. put_listed xid block ls (drop k tuples) items) (drop-first lines k line in_lines l)
+      ∙ ap (λ ts. put_listed xid block (line ∷ drop (k + 1) lines) ts items) (drop-first tuples k tuple in_tuples t)
+      ∙ listed-cons line (drop (k + 1) lines) tuple (drop (k + 1) tuples) items next (sym done)
+      )
+
+  pub listed-refused : (lines : List ℕ) (tuples : List NewTuple) (k line : ℕ) (tuple : NewTuple) (items : List Item) (refusal : BlockRefusal) → k < length lines → k < length tuples → line ≡ get_or lines k line → tuple ≡ get_or tuples k tuple → Err refusal ≡ put line (tuple_of xid 0 block line tuple tuple.rest) items → Err refusal ≡ put_listed xid block (drop k lines) (drop k tuples) items
+  listed-refused lines tuples k line tuple items refusal in_lines in_tuples l t done =
+      sym (
+      ap (λ ls. put_listed xid block ls (drop k tuples) items) (drop-first lines k line in_lines l)
+      ∙ ap (λ ts. put_listed xid block (line ∷ drop (k + 1) lines) ts items) (drop-first tuples k tuple in_tuples t)
+      ∙ listed-cons_refused line (drop (k + 1) lines) tuple (drop (k + 1) tuples) items refusal (sym done)
+      )
+
+  pub listed-end : (lines : List ℕ) (tuples : List NewTuple) (k : ℕ) (items : List Item) → min (length lines) (length tuples) ≤ k → put_listed xid block (drop k lines) (drop k tuples) items ≡ Ok items
+  listed-end lines tuples k items h =
+      elim (cases_lt k (length lines)) [
+        | inl within ↦ listed-none (drop k lines) (drop k tuples) items (drop_all k tuples (omega arith))
+        | inr past ↦ listed-no_lines (drop k lines) (drop k tuples) items (drop_all k lines past)
+      ]
+
+-- parts that are cut one after the other
+pub cut-parts : {X : Type 0} → (n : ℕ) (a b c d : List X) → take n (take n (take n (take n a ++ b) ++ c) ++ d) ≡ take n (a ++ b ++ c ++ d)
+cut-parts n a b c d =
+    ap (λ l. take n (take n (l ++ c) ++ d)) (take-cut n a b)
+    ∙ ap (λ l. take n (l ++ d)) (take-cut n (a ++ b) c)
+    ∙ take-cut n (a ++ b ++ c) d
+
+-- the bytes behind the header of a new version, part by part
+pub join-parts : (tuple : NewTuple) (old p1 p2 p3 p4 : List ℕ) → p1 ≡ take (tuple.hoff - 23) tuple.rest → p2 ≡ take tuple.prefix old → p3 ≡ drop (tuple.hoff - 23) tuple.rest → p4 ≡ drop (length old - tuple.suffix) old → p1 ++ p2 ++ p3 ++ p4 ≡ joined tuple old
+unfolding joined
+join-parts tuple old p1 p2 p3 p4 a b c d =
+    ap (λ l. l ++ p2 ++ p3 ++ p4) a
+    ∙ ap (λ l. take (tuple.hoff - 23) tuple.rest ++ l ++ p3 ++ p4) b
+    ∙ ap (λ l. take (tuple.hoff - 23) tuple.rest ++ take tuple.prefix old ++ l ++ p4) c
+    ∙ ap (λ l. take (tuple.hoff - 23) tuple.rest ++ take tuple.prefix old ++ drop (tuple.hoff - 23) tuple.rest ++ l) d
+
+pub drop_min : {X : Type 0} → (n : ℕ) (xs : List X) → drop (min n (length xs)) xs ≡ drop n xs
+drop_min n xs =
+    elim (cases_lt (length xs) n) [
+      | inl past ↦ drop_all (min n (length xs)) xs (omega arith) ∙ sym (drop_all n xs (omega arith))
+      | inr within ↦ let same : min n (length xs) ≡ n = omega arith in ap (λ m. drop m xs) same
+    ]
+
+pub take_rest : {X : Type 0} → (n : ℕ) (xs : List X) → take (length xs - n) (drop n xs) ≡ drop n xs
+take_rest n xs = take_all (length xs - n) (drop n xs) (omega (arith, length-drop n xs))
+
+-- an element that was read
+pub read-at : {X : Type 0} → (xs : List X) (k : ℕ) (x d : X) → k < length xs → x ≡ get_or xs k x → x ≡ get_or xs k d
+read-at xs k x d h e = e ∙ get_or_default xs k x d h

@@ -1,0 +1,8 @@
+use Rattle.wal_bodies.specs.Heads.{Head, marked}
+use Rattle.std.proofs.Common.{arith}
+use Rattle.std.proofs.lemmas.Grind.{common_steps}
+use Rattle.heap_redo.proofs.line.lock_updated.Goals as goal
+
+pub returns-in_err-header-clause-answer : goal.returns-in_err-header-clause-answer
+returns-in_err-header-clause-answer c =
+    let refused = c.in_err-header.ensures.err (λ (head : Head). marked c.args.xmax c.args.bits head) in grind (arith, common_steps, refused)

@@ -1,0 +1,52 @@
+use Rattle.std.proofs.Common.{ap, sym, ◌∙◌, ◌≡◌, inl, inr, Some, is_ok}
+use Rattle.std.proofs.lemmas.Result.{on_err_weaker}
+use Rattle.page_store.specs.Content.{content, with_block}
+use Rattle.page_store.specs.declared.pool.PoolFault.TheVariants.{Memory as NoRoom}
+use Rattle.heap_redo.specs.declared.fault.RedoFault.TheVariants.{Memory}
+use Rattle.heap_redo.specs.Refused.{pool_fault_at}
+use Rattle.heap_redo.specs.Redone.{view_of, redone_block, seen, fault_by}
+use Rattle.heap_redo.proofs.OneBlock.{below-last}
+use Rattle.heap_redo.proofs.Views.{view-with_block, with_block-same, page-there, page-outcome, missing-outcome, err-is}
+use Rattle.heap_redo.proofs.replay.change.Goals as goal
+
+pub returns-in-Ok-clause-answer : goal.returns-in-Ok-clause-answer
+returns-in-Ok-clause-answer c =
+    let rec = c.args.rec.now in
+    let block = c.args.block.now in
+    let tag = c.args.tag in
+    let blocks = content c.args.pool.now in
+    let bytes = c.change_page.new.page in
+    let held = (c.page.follows.holds bytes (ap is_ok c.in-Ok.is)).blocks in
+    let there : blocks tag.table tag.block ≡ Some c.in-Ok.page.now = elim c.in-Ok.ensures.answer [
+      | inl bad ↦ cc
+      | inr e ↦ page-there (blocks tag.table tag.block) c.in-Ok.page.now e
+    ] in
+    inr (page-outcome rec block (view_of blocks) tag c.requires.anew (view_of (content (c.page.follows.lender bytes))) bytes
+    (ap view_of held ∙ view-with_block blocks tag bytes) c.change_page.result (redone_block rec block (seen (blocks tag.table tag.block)))
+    (c.change_page.ensures.answer ∙ ap (λ here. fault_by rec block (redone_block rec block (seen here))) (sym there)))
+
+pub returns-in-Ok-clause-err : goal.returns-in-Ok-clause-err
+returns-in-Ok-clause-err c =
+    let tag = c.args.tag in
+    let blocks = content c.args.pool.now in
+    let bytes = c.change_page.new.page in
+    let held = (c.page.follows.holds bytes (ap is_ok c.in-Ok.is)).blocks in
+    let there : blocks tag.table tag.block ≡ Some c.in-Ok.page.now = elim c.in-Ok.ensures.answer [
+      | inl bad ↦ cc
+      | inr e ↦ page-there (blocks tag.table tag.block) c.in-Ok.page.now e
+    ] in
+    on_err_weaker c.change_page.result (λ same. held ∙ ap (with_block blocks tag) same ∙ with_block-same blocks tag c.in-Ok.page.now there) c.change_page.ensures.err
+
+pub returns-in-Err-clause-answer : goal.returns-in-Err-clause-answer
+returns-in-Err-clause-answer c =
+    let rec = c.args.rec.now in
+    let block = c.args.block.now in
+    let tag = c.args.tag in
+    let blocks = content c.args.pool.now in
+    let fault = c.in-Err.fault in
+    elim c.in-Err.ensures.answer [
+      | inl memory ↦ let same : fault ≡ NoRoom = cc in
+          inl (err-is c.pool_fault.result Memory (c.pool_fault.ensures ∙ ap (pool_fault_at rec block) same))
+      | inr e ↦ inr (err-is c.pool_fault.result (pool_fault_at rec block fault) c.pool_fault.ensures
+          ∙ missing-outcome rec block (view_of blocks) tag (below-last block.block c.requires.block) c.requires.anew c.requires.left (blocks tag.table tag.block) fault e)
+    ]

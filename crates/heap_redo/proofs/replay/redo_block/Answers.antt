@@ -1,0 +1,59 @@
+use Rattle.std.proofs.Common.{ap, sym, ◌∙◌, inl, inr}
+use Rattle.pg_types.specs.declared.names.Tag.{Tag}
+use Rattle.wal_bodies.specs.After.{no_page}
+use Rattle.heap_redo.specs.Refused.{fault_at}
+use Rattle.page_store.specs.Content.{content}
+use Rattle.heap_redo.specs.Redone.{view_of, redone_block, redone_in, redone_at, view_by}
+use Rattle.heap_redo.proofs.OneBlock.{other-block, last-refused, left-kept}
+use Rattle.heap_redo.proofs.Views.{left-outcome, err-is}
+use Rattle.heap_redo.proofs.replay.redo_block.Goals as goal
+
+pub returns-in_default-clause-answer : goal.returns-in_default-clause-answer
+unfolding redone_at
+returns-in_default-clause-answer c =
+    inr (ap (redone_in c.args.rec.now c.args.block.now (view_of (content c.args.pool.now))) c.in_default.ensures.value)
+
+pub returns-then-block-clause-answer : goal.returns-then-block-clause-answer
+unfolding redone_at
+returns-then-block-clause-answer c =
+    let rec = c.args.rec.now in
+    let block = c.args.block.now in
+    let view = view_of (content c.args.pool.now) in
+    let table = c.in-Some.table in
+    let tag : Tag = record { table = table; block = block.block } in
+    inr (err-is c.fault_at.result (fault_at rec block no_page) c.fault_at.ensures
+    ∙ ap (view_by rec block view tag) (last-refused rec block c.if-block.true (view table block.block))
+    ∙ ap (redone_in rec block view) c.in-Some.ensures.value)
+
+pub returns-then-is_left-clause-answer : goal.returns-then-is_left-clause-answer
+unfolding redone_at
+returns-then-is_left-clause-answer c =
+    let rec = c.args.rec.now in
+    let block = c.args.block.now in
+    let view = view_of (content c.args.pool.now) in
+    let table = c.in-Some.table in
+    inr (left-outcome rec block view (record { table = table; block = block.block }) (sym c.if-is_left.ensures)
+    (redone_block rec block (view table block.block)) (left-kept rec block (other-block block.block c.if-block.false) (sym c.if-is_left.ensures) (view table block.block))
+    ∙ ap (redone_in rec block view) c.in-Some.ensures.value)
+
+pub returns-then-is_anew-clause-answer : goal.returns-then-is_anew-clause-answer
+unfolding redone_at
+returns-then-is_anew-clause-answer c =
+    let rec = c.args.rec.now in
+    let block = c.args.block.now in
+    let view = view_of (content c.args.pool.now) in
+    elim c.remake.ensures.answer [
+      | inl memory ↦ inl memory
+      | inr e ↦ inr (e ∙ ap (redone_in rec block view) c.in-Some.ensures.value)
+    ]
+
+pub returns-else-is_anew-clause-answer : goal.returns-else-is_anew-clause-answer
+unfolding redone_at
+returns-else-is_anew-clause-answer c =
+    let rec = c.args.rec.now in
+    let block = c.args.block.now in
+    let view = view_of (content c.args.pool.now) in
+    elim c.change.ensures.answer [
+      | inl memory ↦ inl memory
+      | inr e ↦ inr (e ∙ ap (redone_in rec block view) c.in-Some.ensures.value)
+    ]

@@ -1,0 +1,11 @@
+use Rattle.std.proofs.Common.{◌≡◌, drop}
+use Rattle.heap_page.specs.Page.{IsPage, items_of}
+use Rattle.wal_bodies.specs.After.{put_listed}
+use Rattle.heap_redo.proofs.version.put_listed.Given as goal
+
+abbrev pub invariant-loop-k : goal.invariant-loop-k
+invariant-loop-k l = record {
+  page : IsPage l.page;
+  rest : put_listed l.xid l.block (drop l.k l.lines) (drop l.k l.tuples) (items_of l.page)
+      ≡ put_listed l.xid l.block l.lines l.tuples (items_of l.initial.page);
+}

@@ -1,0 +1,16 @@
+-- The header of a tuple that the code keeps.
+use Rattle.wal_bodies.specs.Heads.{Head}
+use Rattle.heap_redo.specs.declared.head.Header.{Header}
+
+-- its fields
+abbrev pub head_in : Header → Head
+head_in head = record {
+  xmin = head.xmin;
+  xmax = head.xmax;
+  cid = head.cid;
+  ctid_block = head.ctid_block;
+  ctid_line = head.ctid_line;
+  mask2 = head.mask2;
+  mask = head.mask;
+  hoff = head.hoff;
+}

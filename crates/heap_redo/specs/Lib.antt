@@ -1,0 +1,4 @@
+pub mod Refused
+pub mod Heads
+pub mod Redone
+pub mod Laws

@@ -1,0 +1,48 @@
+-- How a record that is refused at a block is answered.
+use Rattle.std.specs.Prelude.{ℕ, List, Result, Ok, Err}
+use Rattle.pg_types.specs.declared.names.Place.{Place}
+use Rattle.heap_page.specs.Item.{Item}
+use Rattle.heap_page.specs.Page.{items_of}
+use Rattle.page_store.specs.declared.pool.PoolFault.{PoolFault}
+use Rattle.page_store.specs.declared.pool.PoolFault.TheVariants.{Missing, BadPage as BrokenPage, Memory as NoRoom}
+use Rattle.wal_bodies.specs.declared.types.Rec.{Rec}
+use Rattle.wal_bodies.specs.declared.types.RecBlock.{RecBlock}
+use Rattle.wal_bodies.specs.After.{BlockRefusal, no_page, no_tuple, page_full, bad_page, Content, page}
+use Rattle.heap_redo.specs.declared.fault.Refusal.{Refusal}
+use Rattle.heap_redo.specs.declared.fault.Refusal.TheVariants.{NoPage, NoTuple, PageFull, BadPage}
+use Rattle.heap_redo.specs.declared.fault.RedoFault.{RedoFault}
+use Rattle.heap_redo.specs.declared.fault.RedoFault.TheVariants.{PageMissing, NoTuple as NoTupleAt, PageFull as PageFullAt, BadPage as BadPageAt, Memory}
+
+-- the refusal of a block that the code answers
+abbrev pub refusal_of : Refusal → BlockRefusal
+refusal_of NoPage = no_page
+refusal_of (NoTuple line) = no_tuple line
+refusal_of (PageFull line) = page_full line
+refusal_of BadPage = bad_page
+
+-- a line of the record's block, 0 where there is none
+abbrev pub place_in : RecBlock → ℕ → Place
+place_in block line = record { block = block.block; line = line }
+
+-- the fault of a record that is refused at this block: where the record begins, and the place
+unfoldable pub fault_at : Rec → RecBlock → BlockRefusal → RedoFault
+fault_at rec block no_page = PageMissing rec.start (place_in block 0)
+fault_at rec block (no_tuple line) = NoTupleAt rec.start (place_in block line)
+fault_at rec block (page_full line) = PageFullAt rec.start (place_in block line)
+fault_at rec block bad_page = BadPageAt rec.start (place_in block 0)
+
+-- the fault of a record whose block the pool does not lend
+abbrev pub pool_fault_at : Rec → RecBlock → PoolFault → RedoFault
+pool_fault_at rec block Missing = fault_at rec block no_page
+pool_fault_at rec block BrokenPage = fault_at rec block bad_page
+pool_fault_at rec block NoRoom = Memory
+
+-- the items that a change leaves, if it is not refused
+abbrev pub outcome : List Item → Result (Unit {0}) Refusal → Result (List Item) BlockRefusal
+outcome items (Ok done) = Ok items
+outcome items (Err refusal) = Err (refusal_of refusal)
+
+-- the same of a block
+abbrev pub content_outcome : List ℕ → Result (Unit {0}) Refusal → Result Content BlockRefusal
+content_outcome bytes (Ok done) = Ok (page (items_of bytes))
+content_outcome bytes (Err refusal) = Err (refusal_of refusal)

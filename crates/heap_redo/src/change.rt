@@ -1,0 +1,69 @@
+ghost use Rattle.std.specs.Prelude.{◌≡◌};
+ghost use Rattle.heap_page.specs.Page.{IsPage, items_of};
+ghost use Rattle.wal_bodies.specs.After.{changed};
+ghost use Rattle.heap_redo.specs.Refused.{outcome};
+
+use crate::fault::Refusal;
+use crate::line::{confirm, delete, lock, lock_updated};
+use crate::update::{Versions, update};
+use crate::version::put_listed;
+use heap_page::Page;
+use wal_bodies::{Rec, RecBlock, RecKind};
+
+/// What a record changes in the page of a block, which has the page rule before and after. Where it is
+/// refused the page may be changed in part.
+#[tactic(auto, unfolding(wal_bodies::specs::After::changed))]
+pub fn change(page: &mut Page, rec: &Rec, block: &RecBlock) -> Result<(), Refusal>
+    requires { IsPage page.old }
+    ensures answer { outcome (items_of page.new) result
+        ≡ changed rec.now block.now rec.now.kind (items_of page.old) }
+    ensures page { IsPage page.new }
+{
+    let number = block.block;
+    let xid = rec.head.xid.0;
+    let tuples = block.tuples.as_slice();
+    match &rec.kind {
+        RecKind::Insert { line, .. } => put_listed(page, xid, number, &[*line], tuples),
+        RecKind::MultiInsert { lines, .. } => {
+            put_listed(page, xid, number, lines.as_slice(), tuples)
+        }
+        RecKind::Delete {
+            xmax,
+            line,
+            bits,
+            flags,
+        } => delete(page, number, *line, *xmax, *bits, *flags),
+        RecKind::Update {
+            old_xmax,
+            old_line,
+            old_bits,
+            new_xmax,
+            new_line,
+            ..
+        } => {
+            let versions = Versions {
+                old_xmax: *old_xmax,
+                old_line: *old_line,
+                old_bits: *old_bits,
+                new_xmax: *new_xmax,
+                new_line: *new_line,
+                is_hot: rec.head.info & 0x70 == 0x40,
+            };
+            update(page, rec, block, versions)
+        }
+        RecKind::Confirm { line } => confirm(page, number, *line),
+        RecKind::Lock {
+            xmax,
+            line,
+            bits,
+            ..
+        } => lock(page, number, *line, *xmax, *bits),
+        RecKind::LockUpdated {
+            xmax,
+            line,
+            bits,
+            ..
+        } => lock_updated(page, *line, *xmax, *bits),
+        _ => Ok(()),
+    }
+}

@@ -1,0 +1,88 @@
+ghost use Rattle.std.specs.Prelude.{◌≡◌, List, Err};
+ghost use Rattle.heap_page.specs.Item.{Item};
+ghost use Rattle.wal_bodies.specs.After.{answered};
+ghost use Rattle.heap_redo.specs.Refused.{refusal_of, fault_at, pool_fault_at};
+
+use heap_page::PageError;
+use page_store::PoolFault;
+use pg_types::{Lsn, Place};
+use thiserror::Error;
+use wal_bodies::{Rec, RecBlock};
+
+/// Why a record is not applied. The position is where the record begins; the place is the block, and
+/// the line where there is one, else line 0.
+#[derive(Clone, Copy, Debug, PartialEq, Eq, Error)]
+pub enum RedoFault {
+    /// The table does not have the block.
+    #[error("the block is missing")]
+    PageMissing { lsn: Lsn, place: Place },
+    /// A line that is changed has no tuple, or one where a tuple goes is not free.
+    #[error("the line is not as the record has it")]
+    NoTuple { lsn: Lsn, place: Place },
+    /// The page has no room for a tuple.
+    #[error("the page is full")]
+    PageFull { lsn: Lsn, place: Place },
+    /// The page breaks the page rule, or would after the change.
+    #[error("the block is no page")]
+    BadPage { lsn: Lsn, place: Place },
+    #[error("out of memory")]
+    Memory,
+}
+
+/// Why the change of one block is refused.
+#[derive(Clone, Copy, Debug, PartialEq, Eq)]
+pub enum Refusal {
+    NoPage,
+    NoTuple(u16),
+    PageFull(u16),
+    BadPage,
+}
+
+/// A change of a line that the page refuses.
+pub fn at_line(error: PageError, line: u16) -> Refusal
+    ensures { (items : List Item) → Err (refusal_of result) ≡ answered line items (Err error) }
+{
+    match error {
+        PageError::Full => Refusal::PageFull(line),
+        PageError::NoLine => Refusal::NoTuple(line),
+        PageError::BadPage => Refusal::BadPage,
+    }
+}
+
+/// The fault of a record that is refused at this block.
+#[tactic(auto, unfolding(crate::specs::Refused::fault_at))]
+pub fn fault_at(rec: &Rec, block: &RecBlock, refusal: Refusal) -> RedoFault
+    ensures { result ≡ fault_at rec.now block.now (refusal_of refusal) }
+{
+    let lsn = rec.start;
+    let block = block.block;
+    match refusal {
+        Refusal::NoPage => RedoFault::PageMissing {
+            lsn,
+            place: Place { block, line: 0 },
+        },
+        Refusal::NoTuple(line) => RedoFault::NoTuple {
+            lsn,
+            place: Place { block, line },
+        },
+        Refusal::PageFull(line) => RedoFault::PageFull {
+            lsn,
+            place: Place { block, line },
+        },
+        Refusal::BadPage => RedoFault::BadPage {
+            lsn,
+            place: Place { block, line: 0 },
+        },
+    }
+}
+
+/// The fault of a record whose block the pool does not lend.
+pub fn pool_fault(rec: &Rec, block: &RecBlock, fault: PoolFault) -> RedoFault
+    ensures { result ≡ pool_fault_at rec.now block.now fault }
+{
+    match fault {
+        PoolFault::Missing => fault_at(rec, block, Refusal::NoPage),
+        PoolFault::BadPage => fault_at(rec, block, Refusal::BadPage),
+        PoolFault::Memory => RedoFault::Memory,
+    }
+}

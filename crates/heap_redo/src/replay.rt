@@ -1,0 +1,134 @@
+ghost use Rattle.std.specs.Prelude.{◌≡◌, ◌⊎◌, ◌<◌, ◌≤◌, ◌^◌, true, false, length, Some, Err, IfSome, OnErr};
+ghost use Rattle.heap_page.specs.Page.{IsPage};
+ghost use Rattle.page_store.specs.Content.{content, table_count};
+ghost use Rattle.heap_redo.specs.Redone.{seen, view_of, fault_by, fault_outcome, is_anew, is_left, redone_block, view_by, table_of, redone_at, view_outcome, Stands};
+
+use crate::block::{anew, changed, is_anew, is_left};
+use crate::fault::{RedoFault, Refusal, fault_at, pool_fault};
+use heap_page::Page;
+use page_store::Pool;
+use pg_types::{Locator, Tag};
+use wal_bodies::{Rec, RecBlock};
+
+/// The number of the table that has this file.
+fn table_of(known: &[Locator], locator: Locator) -> Option<usize>
+    ensures value { result ≡ table_of known.now locator }
+    ensures bound { IfSome result (λ table. table < length known.now) }
+{
+    known.iter().position(|described| *described == locator)
+}
+
+/// Changes the page of a block, or answers why not.
+fn change_page(page: &mut Page, rec: &Rec, block: &RecBlock) -> Result<(), RedoFault>
+    requires page { IsPage page.old }
+    requires anew { is_anew block.now ≡ false }
+    requires left { is_left rec.now block.now ≡ false }
+    requires block { block.now.block < 4294967295 }
+    ensures answer { fault_outcome page.new result ≡ fault_by rec.now block.now (redone_block rec.now block.now (seen (Some page.old))) }
+    ensures err { OnErr result (page.new ≡ page.old) }
+{
+    match changed(page, rec, block) {
+        Ok(()) => Ok(()),
+        Err(refusal) => Err(fault_at(rec, block, refusal)),
+    }
+}
+
+/// Changes a block that is there.
+fn change(pool: &mut Pool, tag: Tag, rec: &Rec, block: &RecBlock) -> Result<(), RedoFault>
+    requires table { tag.table < table_count pool.old }
+    requires tag { tag.block ≡ block.now.block }
+    requires anew { is_anew block.now ≡ false }
+    requires left { is_left rec.now block.now ≡ false }
+    requires block { block.now.block < 4294967295 }
+    ensures answer { (result ≡ Err RedoFault.Memory) ⊎ (view_outcome (view_of (content pool.new)) result
+        ≡ view_by rec.now block.now (view_of (content pool.old)) tag (redone_block rec.now block.now (seen (content pool.old tag.table tag.block)))) }
+    ensures err { OnErr result (content pool.new ≡ content pool.old) }
+    ensures tables { table_count pool.new ≡ table_count pool.old }
+{
+    match pool.page(tag) {
+        Ok(page) => change_page(page, rec, block),
+        Err(fault) => Err(pool_fault(rec, block, fault)),
+    }
+}
+
+/// Makes a block anew, whatever stands there.
+fn remake(pool: &mut Pool, tag: Tag, rec: &Rec, block: &RecBlock) -> Result<(), RedoFault>
+    requires table { tag.table < table_count pool.old }
+    requires tag { tag.block ≡ block.now.block }
+    requires anew { is_anew block.now ≡ true }
+    requires left { is_left rec.now block.now ≡ false }
+    requires block { block.now.block < 4294967295 }
+    ensures answer { (result ≡ Err RedoFault.Memory) ⊎ (view_outcome (view_of (content pool.new)) result
+        ≡ view_by rec.now block.now (view_of (content pool.old)) tag (redone_block rec.now block.now (seen (content pool.old tag.table tag.block)))) }
+    ensures err { OnErr result (content pool.new ≡ content pool.old) }
+    ensures tables { table_count pool.new ≡ table_count pool.old }
+{
+    let mut page = [0; 8192];
+    if let Err(refusal) = anew(&mut page, rec, block) {
+        return Err(fault_at(rec, block, refusal));
+    }
+    match pool.fresh(tag) {
+        Ok(fresh) => {
+            *fresh = page;
+            Ok(())
+        }
+        Err(fault) => Err(pool_fault(rec, block, fault)),
+    }
+}
+
+/// One block of a record. A block of another table is passed over.
+fn redo_block(
+    pool: &mut Pool,
+    rec: &Rec,
+    block: &RecBlock,
+    known: &[Locator],
+) -> Result<(), RedoFault>
+    requires tables { length known.now ≤ table_count pool.old }
+    requires few { length known.now < 2 ^ 16 }
+    ensures answer { (result ≡ Err RedoFault.Memory) ⊎ (view_outcome (view_of (content pool.new)) result
+        ≡ redone_at rec.now known.now block.now (view_of (content pool.old))) }
+    ensures err { OnErr result (content pool.new ≡ content pool.old) }
+    ensures tables { table_count pool.new ≡ table_count pool.old }
+{
+    let Some(table) = table_of(known, block.locator) else {
+        return Ok(());
+    };
+    if block.block == 4_294_967_295 {
+        return Err(fault_at(rec, block, Refusal::NoPage));
+    }
+    if is_left(rec, block) {
+        return Ok(());
+    }
+    let tag = Tag {
+        table: table as u16,
+        block: block.block,
+    };
+    if is_anew(block) {
+        remake(pool, tag, rec, block)
+    } else {
+        change(pool, tag, rec, block)
+    }
+}
+
+/// Applies a record to the blocks of the described tables, of which `known` has the files in the order of
+/// their numbers. Blocks of other tables are passed over.
+///
+/// An image that is to be applied is restored whatever the page's position, and a block that the record
+/// makes anew begins without items. Else the change is skipped where the page's position is at least the
+/// record's end. Afterwards the page's position is the record's end.
+///
+/// # Errors
+/// Each fault but `Memory` names the record's start and the place. Each block is then as before the
+/// record or after it, the blocks up to one after and the others before, and the record is refused again.
+/// After `Memory` too; a repeated call then leaves what one call leaves.
+pub fn redo(rec: &Rec, known: &[Locator], pool: &mut Pool) -> Result<(), RedoFault>
+    requires tables { length known.now ≤ table_count pool.old }
+    requires few { length known.now < 2 ^ 16 }
+    ensures answer { Stands rec.now known.now (view_of (content pool.old)) (view_of (content pool.new)) result }
+    ensures tables { table_count pool.new ≡ table_count pool.old }
+{
+    for block in rec.blocks.as_slice() {
+        redo_block(pool, rec, block, known)?;
+    }
+    Ok(())
+}

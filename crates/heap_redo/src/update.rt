@@ -1,0 +1,164 @@
+ghost use Rattle.std.specs.Prelude.{◌≡◌, ◌+◌, ◌≤◌, ◌<◌, ◌==◌, bit_and, [], not, nat_lt, take, length, is_some, IfSome};
+ghost use Rattle.heap_page.specs.Item.{numbered, tuple_in};
+ghost use Rattle.heap_page.specs.Page.{IsPage, items_of};
+ghost use Rattle.wal_bodies.specs.After.{user_data, joined, number_of, put_version, update_old, update_within, update};
+ghost use Rattle.heap_redo.specs.Refused.{outcome};
+
+use crate::fault::Refusal;
+use crate::line::update_old;
+use crate::version::{join, put_new, user_data};
+use heap_page::Page;
+use wal_bodies::{NewTuple, Rec, RecBlock};
+
+/// What an update says of its two versions.
+#[derive(Clone, Copy)]
+pub struct Versions {
+    pub old_xmax: u32,
+    pub old_line: u16,
+    pub old_bits: u8,
+    pub new_xmax: u32,
+    pub new_line: u16,
+    /// The new version is heap-only.
+    pub is_hot: bool,
+}
+
+/// What stands behind the header of a new version of the tuple of a line, as far as a page goes, and
+/// its length. `None` exactly where that tuple's values are shorter than the parts that are used of them.
+fn joined(page: &Page, line: u16, tuple: &NewTuple, bytes: &mut [u8; 8192]) -> Option<usize>
+    requires { IsPage page.now }
+    ensures short { let old = user_data (tuple_in (numbered (items_of page.now) line)) in
+        is_some result ≡ not (nat_lt (length old) (tuple.now.prefix + tuple.now.suffix)) }
+    ensures taken { let old = user_data (tuple_in (numbered (items_of page.now) line)) in
+        IfSome result (λ len. take len bytes.new ≡ take 8192 (joined tuple.now old)) }
+    ensures within { IfSome result (λ len. len ≤ 8192) }
+    ensures small { IfSome result (λ len. tuple.now.hoff < 256) }
+{
+    let old = user_data(page, line);
+    if old.len() < tuple.prefix as usize + tuple.suffix as usize {
+        return None;
+    }
+    Some(join(bytes, tuple, old))
+}
+
+/// An update whose both versions are in one block.
+fn update_within(
+    page: &mut Page,
+    rec: &Rec,
+    block: &RecBlock,
+    versions: Versions,
+) -> Result<(), Refusal>
+    requires { IsPage page.old }
+    ensures answer { outcome (items_of page.new) result
+        ≡ update_within rec.now block.now versions.is_hot versions.old_xmax versions.old_line versions.old_bits
+        versions.new_xmax versions.new_line (items_of page.old) }
+    ensures page { IsPage page.new }
+{
+    let tuples = block.tuples.as_slice();
+    if tuples.is_empty() {
+        return mark_old(page, versions, block.block);
+    }
+    let tuple = &tuples[0];
+    let mut rest = [0; 8192];
+    let len = joined(page, versions.old_line, tuple, &mut rest);
+    mark_old(page, versions, block.block)?;
+    match len {
+        Some(len) => put_new(
+            page,
+            rec.head.xid.0,
+            versions.new_xmax,
+            block.block,
+            versions.new_line,
+            tuple,
+            &rest[..len],
+        ),
+        None => Err(Refusal::NoTuple(versions.old_line)),
+    }
+}
+
+/// The old version points to the new one in this block.
+#[tactic(auto, unfolding(wal_bodies::specs::After::update_old))]
+fn mark_old(page: &mut Page, versions: Versions, new_block: u32) -> Result<(), Refusal>
+    requires { IsPage page.old }
+    ensures answer { outcome (items_of page.new) result
+        ≡ update_old versions.is_hot versions.old_xmax versions.old_line versions.old_bits new_block versions.new_line (items_of page.old) }
+    ensures page { IsPage page.new }
+{
+    update_old(
+        page,
+        versions.old_line,
+        versions.old_xmax,
+        versions.old_bits,
+        versions.is_hot,
+        new_block,
+        versions.new_line,
+    )
+}
+
+/// The new version, if the record has it, goes to its line of a block without the old one.
+fn put_version(
+    page: &mut Page,
+    rec: &Rec,
+    block: &RecBlock,
+    versions: Versions,
+) -> Result<(), Refusal>
+    requires { IsPage page.old }
+    ensures answer { outcome (items_of page.new) result
+        ≡ put_version rec.now.head.xid.0 versions.new_xmax block.now.block versions.new_line block.now.tuples [] (items_of page.old) }
+    ensures page { IsPage page.new }
+{
+    let tuples = block.tuples.as_slice();
+    if tuples.is_empty() {
+        return Ok(());
+    }
+    let tuple = &tuples[0];
+    put_new(
+        page,
+        rec.head.xid.0,
+        versions.new_xmax,
+        block.block,
+        versions.new_line,
+        tuple,
+        tuple.rest.as_slice(),
+    )
+}
+
+/// The number of the block with this id, if the record has one.
+fn number_of(id: u8, blocks: &[RecBlock]) -> Option<u32>
+    ensures { result ≡ number_of id blocks.now }
+{
+    for block in blocks {
+        if block.id == id {
+            return Some(block.block);
+        }
+    }
+    None
+}
+
+/// An update: block 1 has the old version, where that is in another block than the new one.
+#[tactic(auto, unfolding(wal_bodies::specs::After::update))]
+pub fn update(
+    page: &mut Page,
+    rec: &Rec,
+    block: &RecBlock,
+    versions: Versions,
+) -> Result<(), Refusal>
+    requires page { IsPage page.old }
+    requires hot { versions.is_hot ≡ (bit_and rec.now.head.info 112 == 64) }
+    ensures answer { outcome (items_of page.new) result
+        ≡ update rec.now block.now versions.old_xmax versions.old_line versions.old_bits versions.new_xmax versions.new_line
+        (number_of 0 rec.now.blocks) (number_of 1 rec.now.blocks) (items_of page.old) }
+    ensures page { IsPage page.new }
+{
+    let blocks = rec.blocks.as_slice();
+    let Some(new_block) = number_of(0, blocks) else {
+        return Ok(());
+    };
+    if number_of(1, blocks).is_none() {
+        return update_within(page, rec, block, versions);
+    }
+    if block.id == 0 {
+        put_version(page, rec, block, versions)
+    } else {
+        mark_old(page, versions, new_block)
+    }
+}

@@ -1,0 +1,99 @@
+ghost use Rattle.std.specs.Prelude.{◌≡◌, ◌+◌, ◌≤◌, ◌<◌, ◌++◌, take, length};
+ghost use Rattle.heap_page.specs.Item.{numbered, tuple_in};
+ghost use Rattle.heap_page.specs.Page.{IsPage, items_of};
+ghost use Rattle.wal_bodies.specs.After.{put, put_listed, tuple_of, user_data, joined};
+ghost use Rattle.heap_redo.specs.Refused.{outcome};
+
+use crate::fault::Refusal;
+use crate::head::Header;
+use crate::line::{put_tuple, update_old};
+use heap_page::{Item, Page, item};
+use wal_bodies::NewTuple;
+
+/// A tuple that this transaction puts at this place, with this xmax and these bytes behind its header.
+#[tactic(auto, unfolding(wal_bodies::specs::After::tuple_of))]
+pub fn put_new(
+    page: &mut Page,
+    xid: u64,
+    xmax: u32,
+    block: u32,
+    line: u16,
+    tuple: &NewTuple,
+    rest: &[u8],
+) -> Result<(), Refusal>
+    requires { IsPage page.old }
+    ensures answer { outcome (items_of page.new) result
+        ≡ put line (tuple_of xid xmax block line tuple.now rest.now) (items_of page.old) }
+    ensures page { IsPage page.new }
+{
+    let header = Header {
+        xmin: xid,
+        xmax,
+        cid: 0,
+        ctid_block: block,
+        ctid_line: line,
+        mask2: tuple.mask2,
+        mask: tuple.mask,
+        hoff: tuple.hoff,
+    };
+    put_tuple(page, line, header, rest)
+}
+
+/// Tuples go to these lines, one after the other.
+pub fn put_listed(
+    page: &mut Page,
+    xid: u64,
+    block: u32,
+    lines: &[u16],
+    tuples: &[NewTuple],
+) -> Result<(), Refusal>
+    requires { IsPage page.old }
+    ensures answer { outcome (items_of page.new) result
+        ≡ put_listed xid block lines.now tuples.now (items_of page.old) }
+    ensures page { IsPage page.new }
+{
+    let count = lines.len().min(tuples.len());
+    for k in 0..count {
+        let tuple = &tuples[k];
+        put_new(page, xid, 0, block, lines[k], tuple, tuple.rest.as_slice())?;
+    }
+    Ok(())
+}
+
+/// Puts as much of a part as fits behind the first `at` bytes.
+fn append(bytes: &mut [u8; 8192], at: usize, part: &[u8]) -> usize
+    requires { at ≤ 8192 }
+    ensures taken { take result bytes.new ≡ take 8192 (take at bytes.old ++ part.now) }
+    ensures within { result ≤ 8192 }
+{
+    let len = part.len().min(8192 - at);
+    bytes[at..at + len].copy_from_slice(&part[..len]);
+    at + len
+}
+
+/// What stands behind the header of a new version of a tuple with these values, as far as a page goes.
+#[tactic(auto, unfolding(wal_bodies::specs::After::joined))]
+pub fn join(bytes: &mut [u8; 8192], tuple: &NewTuple, old: &[u8]) -> usize
+    requires { tuple.now.prefix + tuple.now.suffix ≤ length old.now }
+    ensures taken { take result bytes.new ≡ take 8192 (joined tuple.now old.now) }
+    ensures within { result ≤ 8192 }
+    ensures small { tuple.now.hoff < 256 }
+{
+    let own = tuple.rest.as_slice();
+    let split = usize::from(tuple.hoff).saturating_sub(23).min(own.len());
+    let at = append(bytes, 0, &own[..split]);
+    let at = append(bytes, at, &old[..tuple.prefix as usize]);
+    let at = append(bytes, at, &own[split..]);
+    append(bytes, at, &old[old.len() - tuple.suffix as usize..])
+}
+
+/// The values of the tuple of a line, none where it has none.
+pub fn user_data(page: &Page, line: u16) -> &[u8]
+    requires { IsPage page.now }
+    ensures { result.now ≡ user_data (tuple_in (numbered (items_of page.now) line)) }
+{
+    match item(page, line) {
+        Item::Normal(bytes) => &bytes[bytes[22] as usize..],
+        _ => &[],
+    }
+}
