@@ -1,0 +1,4 @@
+pub mod Ordered
+pub mod Slotted
+pub mod Steps
+pub mod Sets
