@@ -1,0 +1,14 @@
+//! What each record of the log does to a standby's state of transactions: the commit log, the parents of
+//! subtransactions and the known assigned ids (xact.c, standby.c, xlog.c).
+#![tactic(auto)]
+
+mod records;
+mod room;
+pub mod state;
+
+pub use records::redo;
+pub use room::reserve;
+pub use state::XactState;
+
+#[cfg(test)]
+mod tests;

@@ -1,0 +1,145 @@
+ghost use Rattle.std.specs.Prelude.{◌≡◌, ℕ, ◌+◌, ◌^◌, ◌≤◌, ◌<◌, ◌∷◌, All, length};
+ghost use Rattle.pg_types.specs.declared.names.Xid.{Xid};
+ghost use Rattle.commit_log.specs.Log.{reserved_end, status_of};
+ghost use Rattle.known_assigned.specs.Ids.{greatest, numbers};
+ghost use Rattle.xact_redo.specs.State.{AreIdsInRange, HasRoom, checkpoint_seen, has_ended, last_ended, last_named, outcome_of, running_seen, state_after, still_live, transactions, tree_ended};
+
+use crate::state::XactState;
+use commit_log::CommitLog;
+use known_assigned::RunningHead;
+use pg_types::{Lsn, Status, Xid};
+use wal_bodies::{Rec, RecKind};
+use wal_record::RecordHead;
+
+/// Applies a record to the state. The ids that it names are observed first, whatever its kind
+/// (`ApplyWalRecord`, xlogrecovery.c); then a commit or an abort ends its transaction
+/// (`xact_redo_commit`, `xact_redo_abort`), a running record tells which run
+/// (`ProcArrayApplyRecoveryInfo`), and at a shutdown checkpoint none does.
+///
+/// It takes no memory. It costs a constant time for each id that is new, a search by halving and a
+/// write for each id that ends, and of a running record a look-up for each id that is listed, beside what
+/// `KnownAssigned::running` costs.
+#[tactic(auto, unfolding(crate::specs::State::state_after, crate::specs::State::transactions))]
+pub fn redo(rec: &Rec, state: &mut XactState)
+    requires ids { AreIdsInRange rec.now }
+    requires room { HasRoom rec.now state.old }
+    ensures { transactions state.new ≡ state_after rec.now (transactions state.old) }
+{
+    state.known.observe(last_named(rec));
+    match &rec.kind {
+        RecKind::Ended { xids, .. } => {
+            let status = outcome_of(rec.head);
+            end_tree(rec.head.xid, xids.as_slice(), status, rec.end, state);
+        }
+        RecKind::Running {
+            tops,
+            overflow,
+            next,
+            oldest,
+            latest,
+            xids,
+            ..
+        } => {
+            let head = RunningHead {
+                overflow: *overflow,
+                tops: *tops,
+                next: *next,
+                oldest: *oldest,
+                latest: *latest,
+            };
+            see_running(&head, xids.as_slice(), state);
+        }
+        RecKind::Checkpoint { next, .. } => see_checkpoint(rec.head, *next, state),
+        _ => {}
+    }
+}
+
+/// The greatest id that the record names, in its header or as ended.
+pub(crate) fn last_named(rec: &Rec) -> Xid
+    ensures { result.0 ≡ last_named rec.now.head rec.now.kind }
+{
+    match &rec.kind {
+        RecKind::Ended { xids, .. } => greatest_of(rec.head.xid, xids.as_slice()),
+        _ => rec.head.xid,
+    }
+}
+
+/// The greatest of these.
+fn greatest_of(first: Xid, rest: &[Xid]) -> Xid
+    ensures { result.0 ≡ greatest (numbers (first ∷ rest.now)) }
+{
+    let mut most = first.0;
+    for xid in rest {
+        most = most.max(xid.0);
+    }
+    Xid(most)
+}
+
+/// How the record ends its transaction.
+fn outcome_of(head: RecordHead) -> Status
+    ensures { result ≡ outcome_of head }
+{
+    if head.info & 0x70 == 0x00 {
+        Status::Committed
+    } else {
+        Status::Aborted
+    }
+}
+
+/// The transaction and its subtransactions end so, by a record that ends at this position.
+#[tactic(auto, unfolding(crate::specs::State::transactions))]
+fn end_tree(xid: Xid, subs: &[Xid], status: Status, at: Lsn, state: &mut XactState)
+    requires ids { All (λ (x : Xid). x.0 ≤ 2 ^ 63 + 2 ^ 32) (xid ∷ subs.now) }
+    requires room { All (λ (x : Xid). x.0 < reserved_end state.old.log) (xid ∷ subs.now) }
+    ensures { transactions state.new ≡ tree_ended (xid ∷ subs.now) status at (transactions state.old) }
+{
+    state.log.set_tree(xid, subs, status, at);
+    state.known.end_tree(xid, subs);
+}
+
+/// The listed transactions run, but those that have ended.
+#[tactic(auto, unfolding(crate::specs::State::transactions))]
+fn see_running(head: &RunningHead, xids: &[Xid], state: &mut XactState)
+    requires oldest { head.now.oldest.0 ≤ 2 ^ 63 + 2 ^ 32 }
+    requires latest { head.now.latest.0 ≤ 2 ^ 63 + 2 ^ 32 }
+    requires listed { All (λ (x : Xid). x.0 ≤ 2 ^ 63 + 2 ^ 32) xids.now }
+    requires live { numbers state.old.scratch ≡ still_live (status_of state.old.log) (numbers xids.now) }
+    requires places { length state.old.scratch ≤ state.old.known.spare }
+    ensures { transactions state.new ≡ running_seen head.now (numbers xids.now) (transactions state.old) }
+{
+    let ended = last_ended(&state.log, xids);
+    state.known.running(head, state.scratch.as_slice(), ended);
+}
+
+/// The greatest of the ids that the commit log shows ended, or 0.
+fn last_ended(log: &CommitLog, xids: &[Xid]) -> Xid
+    requires { All (λ (x : Xid). x.0 ≤ 2 ^ 63 + 2 ^ 32) xids.now }
+    ensures last { result.0 ≡ last_ended (status_of log.now) (numbers xids.now) }
+    ensures bound { result.0 ≤ 2 ^ 63 + 2 ^ 32 }
+{
+    let mut most = 0;
+    for xid in xids {
+        if has_ended(log.get(*xid)) {
+            most = most.max(xid.0);
+        }
+    }
+    Xid(most)
+}
+
+/// Whether a status says that the transaction has ended.
+pub(crate) fn has_ended(status: Status) -> bool
+    ensures { result ≡ has_ended status }
+{
+    matches!(status, Status::Committed | Status::Aborted)
+}
+
+/// After a shutdown nothing runs.
+#[tactic(auto, unfolding(crate::specs::State::transactions))]
+fn see_checkpoint(head: RecordHead, next: Xid, state: &mut XactState)
+    requires { next.0 ≤ 2 ^ 63 + 2 ^ 32 }
+    ensures { transactions state.new ≡ checkpoint_seen head next (transactions state.old) }
+{
+    if head.info & 0xF0 == 0x00 {
+        state.known.shutdown(next);
+    }
+}

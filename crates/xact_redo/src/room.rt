@@ -1,0 +1,66 @@
+ghost use Rattle.std.specs.Prelude.{◌≡◌, ℕ, ◌<◌, [], All, OnOk};
+ghost use Rattle.pg_types.specs.declared.names.Xid.{Xid};
+ghost use Rattle.commit_log.specs.Log.{changed_at, reserved_end, status_of};
+ghost use Rattle.known_assigned.specs.Ids.{numbers};
+ghost use Rattle.xact_redo.specs.State.{HasRoom, ended_ids, listed_running, still_live, transactions};
+
+use crate::records::{has_ended, last_named};
+use crate::state::XactState;
+use commit_log::CommitLog;
+use pg_types::{NoMemory, Xid, XidList};
+use wal_bodies::{Rec, RecKind};
+
+/// Makes all the room that the record needs, so that its `redo` takes no memory, and changes nothing else
+/// that contracts see; also where memory is wanting. The room lasts until the state changes.
+///
+/// It costs a look-up in the commit log for each id that a running record lists, and the memory that is
+/// taken anew.
+#[tactic(auto, unfolding(crate::specs::State::transactions))]
+pub fn reserve(rec: &Rec, state: &mut XactState) -> Result<(), NoMemory>
+    ensures state { transactions state.new ≡ transactions state.old }
+    ensures room { OnOk result (HasRoom rec.now state.new) }
+{
+    reserve_statuses(rec, &mut state.log)?;
+    keep_live(rec, &state.log, &mut state.scratch)?;
+    let added = state.known.would_add(last_named(rec));
+    match added.checked_add(state.scratch.len() as u64) {
+        Some(places) => state.known.reserve(places),
+        None => Err(NoMemory),
+    }
+}
+
+/// Makes room for the statuses that the record sets.
+fn reserve_statuses(rec: &Rec, log: &mut CommitLog) -> Result<(), NoMemory>
+    ensures statuses { (x : ℕ) → status_of log.new x ≡ status_of log.old x }
+    ensures changed { (n : ℕ) → changed_at log.new n ≡ changed_at log.old n }
+    ensures room { OnOk result (All (λ (x : Xid). x.0 < reserved_end log.new) (ended_ids rec.now.head rec.now.kind)) }
+{
+    match &rec.kind {
+        RecKind::Ended { .. } => log.reserve(last_named(rec)),
+        _ => Ok(()),
+    }
+}
+
+/// Keeps those of the ids that the record lists as running which the commit log does not show ended.
+fn keep_live(rec: &Rec, log: &CommitLog, live: &mut XidList) -> Result<(), NoMemory>
+    ensures { OnOk result (numbers live.new ≡ still_live (status_of log.now) (numbers (listed_running rec.now.kind))) }
+{
+    live.clear();
+    match &rec.kind {
+        RecKind::Running { xids, .. } => push_live(xids.as_slice(), log, live),
+        _ => Ok(()),
+    }
+}
+
+/// Puts those of the ids that the commit log does not show ended into an empty list.
+fn push_live(xids: &[Xid], log: &CommitLog, live: &mut XidList) -> Result<(), NoMemory>
+    requires { live.old ≡ [] }
+    ensures { OnOk result (numbers live.new ≡ still_live (status_of log.now) (numbers xids.now)) }
+{
+    for xid in xids {
+        if !has_ended(log.get(*xid)) {
+            live.push(*xid)?;
+        }
+    }
+    Ok(())
+}

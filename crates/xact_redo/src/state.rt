@@ -1,0 +1,58 @@
+ghost use Rattle.std.specs.Prelude.{◌≡◌, ℕ, Option, None};
+
+use commit_log::CommitLog;
+use known_assigned::KnownAssigned;
+use pg_types::{Status, Unknown, Xid, XidList};
+use std::alloc::Global;
+use subtrans::Subtrans;
+use tuple_visibility::Statuses;
+
+/// What a standby knows of transactions.
+#[derive(Drop)]
+pub struct XactState {
+    /// How each transaction ended.
+    pub log: CommitLog,
+    /// The parents of subtransactions.
+    pub subs: Subtrans,
+    /// The transactions that run.
+    pub known: KnownAssigned,
+    /// The ids of a running record that have not ended, from its `reserve` to its `redo`.
+    pub scratch: XidList,
+}
+
+impl XactState {
+    ghost use Rattle.xact_redo.specs.State.{before_records, transactions};
+
+    /// The state before the first record. It takes no memory.
+    #[tactic(auto, unfolding(crate::specs::State::transactions, crate::specs::State::before_records))]
+    pub fn new(alloc: Global) -> XactState
+        ensures { transactions result ≡ before_records }
+    {
+        XactState {
+            log: CommitLog::new(alloc),
+            subs: Subtrans::new(alloc),
+            known: KnownAssigned::new(alloc),
+            scratch: XidList::new(alloc),
+        }
+    }
+}
+
+impl Statuses for XactState {
+    ghost use Rattle.std.specs.Prelude.{None};
+    ghost use Rattle.commit_log.specs.Log.{status_of};
+
+    ghost status_of = { λ state. status_of state.log };
+
+    // No record that makes a multixact is read yet.
+    ghost updater_of = { λ _ _. None };
+
+    /// One look-up in the commit log.
+    fn status(&self, xid: Xid) -> Status {
+        self.log.get(xid)
+    }
+
+    /// No multixact is known.
+    fn updater(&self, id: u32) -> Result<Option<Xid>, Unknown> {
+        Err(Unknown { id })
+    }
+}
