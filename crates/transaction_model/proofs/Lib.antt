@@ -1,0 +1,11 @@
+pub mod Decisions
+pub mod Endings
+pub mod IdSets
+pub mod ParentLists
+pub mod Promotion
+pub mod Replayed
+pub mod RunningKept
+pub mod SnapshotLaws
+pub mod StandbyKept
+pub mod States
+pub mod WorkedLife
