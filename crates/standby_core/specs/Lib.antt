@@ -1,0 +1,4 @@
+pub mod Standby
+pub mod Replay
+pub mod Steps
+pub mod View

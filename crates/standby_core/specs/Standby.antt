@@ -1,0 +1,51 @@
+-- A node as contracts see it.
+use Rattle.std.specs.Prelude.{ℕ, List, [], Option, Some}
+use Rattle.pg_types.specs.declared.names.Locator.{Locator}
+use Rattle.pg_types.specs.declared.names.Lsn.{Lsn}
+use Rattle.wal_record.specs.declared.types.PrevRule.{PrevRule}
+use Rattle.wal_record.specs.declared.types.PrevRule.TheVariants.{Below}
+use Rattle.wal_reader.specs.Kept.{Kept}
+use Rattle.wal_reader.specs.Told.{Told}
+use Rattle.heap_redo.specs.Redone.{View}
+use Rattle.xact_redo.specs.State.{TransactionState, before_records}
+use Rattle.standby_core.specs.declared.types.Origin.{Origin}
+
+pub record Standby : Type 0 where
+  -- the described database, and the files of the described tables
+  pub database : ℕ
+  pub known : List Locator
+  -- the log's system identifier, and the size of its segments
+  pub system : ℕ
+  pub segsize : ℕ
+  -- the position of the next record, and what its link to the record before has to be
+  pub at : Lsn
+  pub prev : PrevRule
+  -- the position to be reached, and where the backup began whose end is still to come
+  pub min : Lsn
+  pub awaited : Option Lsn
+  -- the blocks of the described tables, and what is known of transactions
+  pub blocks : View
+  pub transactions : TransactionState
+  -- what is kept of the log
+  pub kept : Kept
+
+-- a node as its life begins at an origin: the first record's link is below its own position, and the end of the
+-- backup that began at the redo position is awaited (backup_label, xlogrecovery.c)
+unfoldable pub at_origin : ℕ → List Locator → Origin → View → Standby
+at_origin database known origin blocks = record {
+  database = database;
+  known = known;
+  system = origin.system;
+  segsize = origin.segsize;
+  at = origin.redo;
+  prev = Below;
+  min = origin.redo;
+  awaited = Some origin.redo;
+  blocks = blocks;
+  transactions = before_records;
+  kept = record { from = 0; bytes = [] };
+}
+
+-- the log as it is told to the node
+abbrev pub told_to : Standby → (ℕ → Option ℕ) → Told
+told_to node byte = record { byte = byte; owner = λ at. 1; system = node.system; segsize = node.segsize }

@@ -1,0 +1,54 @@
+-- The node's own parts as contracts see them.
+use Rattle.std.specs.Prelude.{◌≡◌, ℕ, false, length, Option, IfSome, is_some, Result}
+use Rattle.page_store.specs.Content.{content, table_count}
+use Rattle.heap_redo.specs.Redone.{view_of}
+use Rattle.wal_reader.specs.Kept.{AreTold}
+use Rattle.wal_reader.specs.Step.{step}
+use Rattle.xact_redo.specs.State.{transactions}
+use Rattle.standby_core.specs.declared.node.Node.{Node}
+use Rattle.standby_core.specs.declared.types.NodeFault.{NodeFault}
+use Rattle.standby_core.specs.declared.types.NodeParts.{NodeParts}
+use Rattle.standby_core.specs.declared.types.NodeStatus.{NodeStatus}
+use Rattle.standby_core.specs.declared.types.Replayed.{Replayed}
+use Rattle.standby_core.specs.Standby.{Standby, told_to}
+use Rattle.standby_core.specs.Replay.{Replays}
+
+unfoldable pub standby : Node → Standby
+standby node = record {
+  database = node.database;
+  known = node.known.items;
+  system = node.reader.source.system;
+  segsize = node.segsize;
+  at = node.reader.at;
+  prev = node.reader.prev;
+  min = node.min;
+  awaited = node.awaited;
+  blocks = view_of (content node.pool);
+  transactions = transactions node.state;
+  kept = node.reader.source.kept;
+}
+
+-- where the log's bytes are told, and what the node keeps of them is among them, the answer is that of the record at
+-- the node's position; and what it keeps afterwards is among them too
+abbrev pub ReplaysTold : Option (ℕ → Option ℕ) → Result Replayed NodeFault → Standby → Standby → Type 0
+ReplaysTold told result old new =
+    IfSome told (λ byte. AreTold byte old.kept
+    → AreTold byte new.kept × Replays result old new (step (told_to old byte) old.at.0 old.prev))
+
+-- where a node stands: the first timeline, no scans, not promoted
+unfoldable pub status_of : Standby → NodeStatus
+status_of node = record {
+  tli = record { 0 = 1 };
+  at = node.at;
+  min = node.min;
+  awaited = is_some node.awaited;
+  state = node.transactions.known.mode;
+  scans = 0;
+  promoted = false;
+}
+
+-- the blocks and the state of transactions in a node's parts, of as many tables as are described
+pub record HasParts (parts : NodeParts) (node : Standby) : Type 0 where
+  pub tables : table_count parts.pool ≡ length node.known
+  pub blocks : view_of (content parts.pool) ≡ node.blocks
+  pub transactions : transactions parts.state ≡ node.transactions

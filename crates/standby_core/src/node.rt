@@ -1,0 +1,273 @@
+ghost use Rattle.std.specs.Prelude.{◌≡◌, ◌<◌, ◌^◌, vec_len};
+ghost use Rattle.pg_types.specs.Names.{IsSegmentSize};
+ghost use Rattle.pg_types.specs.SegmentSizes.{IsSegmentSize-prop};
+ghost use Rattle.page_store.specs.Content.{table_count};
+ghost use Rattle.standby_core.specs.Replay.{awaited_after, body_refusal, redo_refusal};
+ghost use Rattle.standby_core.specs.Steps.{refusing, unread};
+
+use crate::types::{NodeFault, NodeParts, NodeStatus, Origin, Refusal, Replayed};
+use heap_redo::RedoFault;
+use outside::Archive;
+use page_store::Pool;
+use pg_types::{Locator, Lsn, NoMemory, Tli};
+use std::alloc::Global;
+use wal_archive::ArchiveLog;
+use wal_bodies::{BodyFault, Rec, RecKind, body};
+use wal_reader::{Next, ReadFault, Reader};
+use wal_record::PrevRule;
+use xact_redo::{XactState, reserve};
+
+/// A standby's node. Contracts see the blocks of the described tables, the state of transactions, where
+/// replay stands and after which record, and the end of the backup that is awaited.
+#[derive(Drop)]
+pub struct Node {
+    alloc: Global,
+    database: u32,
+    known: Vec<Locator>,
+    segsize: u32,
+    reader: Reader,
+    /// The reader's position.
+    at: Lsn,
+    pool: Pool,
+    state: XactState,
+    min: Lsn,
+    awaited: Option<Lsn>,
+    ghost tables: { table_count pool ≡ vec_len known },
+    ghost few: { vec_len known < 2 ^ 16 },
+    ghost allowed: { IsSegmentSize segsize } by { IsSegmentSize-prop segsize },
+    ghost same_size: { reader.source.segsize ≡ segsize },
+    ghost same_at: { reader.at.0 ≡ at.0 },
+}
+
+impl Node {
+    ghost use Rattle.std.specs.Prelude.{◌≡◌, IfOk, Ok, Err, Some, length, ℕ, ◌≤◌};
+    ghost use Rattle.outside.specs.Faults.{Rose};
+    ghost use Rattle.wal_archive.specs.ArchiveLog.{archived_bytes};
+    ghost use Rattle.page_store.specs.Content.{content};
+    ghost use Rattle.heap_redo.specs.Redone.{view_of};
+    ghost use Rattle.wal_record.specs.Decoded.{decoded};
+    ghost use Rattle.wal_reader.specs.Calls.{WhereTold};
+    ghost use Rattle.wal_reader.specs.Standing.{Answers, StandsStill};
+    ghost use Rattle.wal_reader.specs.Step.{step};
+    ghost use Rattle.wal_bodies.specs.Xids.{AreXidsShort};
+    ghost use Rattle.standby_core.specs.Standby.{at_origin};
+    ghost use Rattle.standby_core.specs.Replay.{StaysUnlessApplied, awaited_after};
+    ghost use Rattle.standby_core.specs.Steps.{GivenReplays, Gives, RecReplays, TypedForm};
+    ghost use Rattle.standby_core.specs.View.{HasParts, ReplaysTold, standby, status_of};
+
+    /// A node at an origin, over a pool that was made for as many tables as are `known`. It awaits the end
+    /// of the backup that began at the redo position.
+    #[tactic(auto, unfolding(crate::specs::View::standby, crate::specs::Standby::at_origin))]
+    pub fn at_origin(
+        alloc: Global,
+        database: u32,
+        known: &[Locator],
+        origin: &Origin,
+        pool: Pool,
+    ) -> Result<Node, NoMemory>
+        requires tables { table_count pool ≡ length known.now }
+        requires few { length known.now < 2 ^ 16 }
+        requires segment_size { IsSegmentSize origin.now.segsize }
+        ensures { IfOk result (λ node. standby node ≡ at_origin database known.now origin.now (view_of (content pool))) }
+    {
+        let known = Vec::from_slice(alloc, known)?;
+        let reader = Reader::start(
+            alloc,
+            origin.system,
+            origin.segsize,
+            origin.redo,
+            PrevRule::Below,
+        )?;
+        Ok(Node {
+            alloc,
+            database,
+            known,
+            segsize: origin.segsize,
+            reader,
+            at: origin.redo,
+            pool,
+            state: XactState::new(alloc),
+            min: origin.redo,
+            awaited: Some(origin.redo),
+        })
+    }
+
+    /// Where the node stands. It takes no memory.
+    #[tactic(auto, unfolding(crate::specs::View::standby, crate::specs::View::status_of))]
+    pub fn status(&self) -> NodeStatus
+        ensures { result ≡ status_of (standby self.now) }
+    {
+        NodeStatus {
+            tli: Tli(1),
+            at: self.at,
+            min: self.min,
+            awaited: self.awaited.is_some(),
+            state: self.state.known.state(),
+            scans: 0,
+            promoted: false,
+        }
+    }
+
+    /// Takes the node apart. It takes no memory.
+    #[tactic(auto, unfolding(crate::specs::View::standby))]
+    pub fn parts(self) -> NodeParts
+        ensures { HasParts result (standby self) }
+    {
+        let Node { pool, state, .. } = self;
+        NodeParts { pool, state }
+    }
+
+    /// Replays the record at the node's position: its blocks are changed, then the state of transactions,
+    /// and the node moves to its end (`ApplyWalRecord`). The room for the state is made before a block is
+    /// changed. A backup-end record of the backup that is awaited ends the waiting.
+    ///
+    /// After every answer but `Applied` the position and the state of transactions are as before. After
+    /// `Refused`, which comes again, and after `Memory` each block is as before the record or as after it.
+    /// `Refused` and `AtEnd` bear the node's position.
+    ///
+    /// # Errors
+    /// `Archive` only where the archive's faults rose. `Memory` where memory ran out.
+    #[tactic(auto, unfolding(crate::specs::View::standby))]
+    pub fn replay_one<A: Archive>(&mut self, archive: &mut A) -> Result<Replayed, NodeFault>
+        ensures answer { ReplaysTold (archived_bytes (A.files archive.old) (standby self.old).segsize) result (standby self.old) (standby self.new) }
+        ensures stays { StaysUnlessApplied result (standby self.old) (standby self.new) }
+        ensures told { archived_bytes (A.files archive.new) (standby self.old).segsize ≡ archived_bytes (A.files archive.old) (standby self.old).segsize }
+        ensures faults { A.fault_count archive.old ≤ A.fault_count archive.new }
+        ensures cause { result ≡ Err NodeFault.Archive → Rose (A.fault_count archive.old) (A.fault_count archive.new) }
+    {
+        match self.read(archive) {
+            Ok(Next::Record { start, end }) => self.apply(start, end),
+            Ok(Next::AtEnd { lsn, why }) => Ok(Replayed::AtEnd { lsn, why }),
+            Err(fault) => unread(fault),
+        }
+    }
+
+    /// Reads the record at the node's position.
+    #[tactic(auto, unfolding(crate::specs::View::standby))]
+    fn read<A: Archive>(&mut self, archive: &mut A) -> Result<Next, ReadFault>
+        ensures others { standby self.new ≡ record (standby self.old) { kept = (standby self.new).kept } }
+        ensures still { StandsStill self.old.reader self.new.reader result }
+        ensures answer { WhereTold (archived_bytes (A.files archive.old) self.old.segsize) (λ _. 1) self.old.reader.source self.new.reader.source
+            (λ told. Answers result self.old.reader.at (λ start. decoded self.new.reader.source.text start self.old.reader.prev) (step told self.old.reader.at.0 self.old.reader.prev)) }
+        ensures told { archived_bytes (A.files archive.new) self.old.segsize ≡ archived_bytes (A.files archive.old) self.old.segsize }
+        ensures faults { A.fault_count archive.old ≤ A.fault_count archive.new }
+        ensures cause { result ≡ Err ReadFault.Log → Rose (A.fault_count archive.old) (A.fault_count archive.new) }
+    {
+        let mut log = ArchiveLog::plain(archive, self.segsize);
+        self.reader.next(&mut log)
+    }
+
+    /// Replays the record that the reader gave last.
+    fn apply(&mut self, start: Lsn, end: Lsn) -> Result<Replayed, NodeFault>
+        requires { Gives self.old.reader start end }
+        ensures replays { GivenReplays self.old.reader start end result (standby self.old) (standby self.new) }
+        ensures stays { StaysUnlessApplied result (standby self.old) (standby self.new) }
+        ensures kept { (standby self.new).kept ≡ (standby self.old).kept }
+        ensures no_archive { result ≡ Err NodeFault.Archive → ⊥ }
+    {
+        match self.typed(start, end) {
+            Ok(rec) => self.apply_typed(&rec),
+            Err(fault) => refuse_body(self.at, fault),
+        }
+    }
+
+    /// The typed form of the record that the reader gave last.
+    fn typed(&self, start: Lsn, end: Lsn) -> Result<Rec, BodyFault>
+        requires { Gives self.now.reader start end }
+        ensures form { TypedForm self.now.reader start end self.now.database self.now.known.items result }
+        ensures xids { IfOk result AreXidsShort }
+        ensures places { IfOk result (λ rec. (rec.start ≡ start) × (rec.end ≡ end)) }
+    {
+        body(
+            self.alloc,
+            &self.reader.record(),
+            start,
+            end,
+            self.database,
+            self.known.as_slice(),
+        )
+    }
+
+    /// Replays a record in typed form, which the reader gave last.
+    #[tactic(auto, unfolding(crate::specs::View::standby))]
+    fn apply_typed(&mut self, rec: &Rec) -> Result<Replayed, NodeFault>
+        requires given { Gives self.old.reader rec.now.start rec.now.end }
+        requires xids { AreXidsShort rec.now }
+        ensures replays { RecReplays rec.now result (standby self.old) (standby self.new) }
+        ensures stays { StaysUnlessApplied result (standby self.old) (standby self.new) }
+        ensures kept { (standby self.new).kept ≡ (standby self.old).kept }
+    {
+        reserve(rec, &mut self.state)?;
+        match heap_redo::redo(rec, self.known.as_slice(), &mut self.pool) {
+            Ok(()) => {}
+            Err(fault) => return refuse_blocks(self.at, fault),
+        }
+        xact_redo::redo(rec, &mut self.state);
+        self.pass(rec);
+        Ok(Replayed::Applied {
+            start: rec.start,
+            at: rec.end,
+            cancelled: 0,
+        })
+    }
+
+    /// Moves past a record that was applied.
+    #[tactic(auto, unfolding(crate::specs::View::standby))]
+    fn pass(&mut self, rec: &Rec)
+        requires { Gives self.old.reader rec.now.start rec.now.end }
+        ensures { standby self.new ≡ record (standby self.old) { at = rec.now.end; prev = PrevRule.Is rec.now.start; awaited = awaited_after rec.now.kind self.old.awaited } }
+    {
+        self.awaited = awaited_after(&rec.kind, self.awaited);
+        self.at = rec.end;
+        self.reader.accept();
+    }
+}
+
+/// Where the backup began whose end is awaited after a record of this kind.
+fn awaited_after(kind: &RecKind, awaited: Option<Lsn>) -> Option<Lsn>
+    ensures { result ≡ awaited_after kind.now awaited }
+{
+    match (kind, awaited) {
+        (RecKind::BackupEnd { start }, Some(begun)) if start.0 == begun.0 => None,
+        _ => awaited,
+    }
+}
+
+/// The answer where the reader has none.
+fn unread(fault: ReadFault) -> Result<Replayed, NodeFault>
+    ensures { result ≡ unread fault }
+{
+    let (lsn, what) = match fault {
+        ReadFault::Log => return Err(NodeFault::Archive),
+        ReadFault::Memory => return Err(NodeFault::Memory),
+        ReadFault::Compressed { lsn } => (lsn, Refusal::Compressed),
+        ReadFault::TooLong { lsn } => (lsn, Refusal::TooLong),
+    };
+    Ok(Replayed::Refused { lsn, what })
+}
+
+/// The answer where the record at this position has no typed form.
+fn refuse_body(lsn: Lsn, fault: BodyFault) -> Result<Replayed, NodeFault>
+    ensures { result ≡ refusing lsn (body_refusal fault) }
+{
+    let what = match fault {
+        BodyFault::Length { .. } => Refusal::Length,
+        BodyFault::Unsupported { what, .. } => Refusal::Unsupported(what),
+        BodyFault::Memory => return Err(NodeFault::Memory),
+    };
+    Ok(Replayed::Refused { lsn, what })
+}
+
+/// The answer where the record at this position is refused at its blocks.
+fn refuse_blocks(lsn: Lsn, fault: RedoFault) -> Result<Replayed, NodeFault>
+    ensures { result ≡ refusing lsn (redo_refusal fault) }
+{
+    let what = match fault {
+        RedoFault::PageMissing { place, .. } => Refusal::NoPage { block: place.block },
+        RedoFault::NoTuple { place, .. } => Refusal::NoTuple { place },
+        RedoFault::PageFull { place, .. } => Refusal::PageFull { place },
+        RedoFault::BadPage { place, .. } => Refusal::BadPage { block: place.block },
+        RedoFault::Memory => return Err(NodeFault::Memory),
+    };
+    Ok(Replayed::Refused { lsn, what })
+}
