@@ -1,0 +1,23 @@
+use Rattle.std.proofs.Common.{◌⊎◌, map}
+use Rattle.std.specs.Prelude.{codes, string_bytes}
+use Rattle.outside.specs.Faults.{Rose}
+use Rattle.standby_cli.specs.Meaning.{reply_meaning}
+use Rattle.standby_cli.proofs.Faults.{cut_off_answer, cut_off_at_once}
+use Rattle.standby_model.specs.Scan.{line}
+use Rattle.standby_cli.proofs.top.standby_main.Goals as goal
+
+pub returns-in-Ok-clause-memory_line : goal.returns-in-Ok-clause-memory_line
+returns-in-Ok-clause-memory_line g c = λ twelve.
+    cut_off_answer
+    (Rose (g.O.Sink.fault_count c.args.out.now) (g.O.Sink.fault_count c.finish.new.out) ⊎ Rose (g.O.Sink.short_count c.args.out.now) (g.O.Sink.short_count c.finish.new.out))
+    (g.O.Sink.written c.args.out.now) (g.O.Sink.written c.finish.new.out) (map string_bytes c.args.words.now)
+    (g.A.Archive.files c.args.archive.now) (reply_meaning c.in-Ok.reply) (line (codes "fault memory"))
+    c.in-Ok.ensures.told (c.finish.ensures.memory_line twelve)
+
+pub returns-in-Err-Memory-clause-memory_line : goal.returns-in-Err-Memory-clause-memory_line
+returns-in-Err-Memory-clause-memory_line g c = λ twelve.
+    cut_off_at_once
+    (Rose (g.O.Sink.fault_count c.args.out.now) (g.O.Sink.fault_count c.write_fault-in-Err-Memory.new.out) ⊎ Rose (g.O.Sink.short_count c.args.out.now) (g.O.Sink.short_count c.write_fault-in-Err-Memory.new.out))
+    (g.O.Sink.written c.args.out.now) (g.O.Sink.written c.write_fault-in-Err-Memory.new.out) (map string_bytes c.args.words.now)
+    (g.A.Archive.files c.args.archive.now) (line (codes "fault memory"))
+    c.write_fault-in-Err-Memory.ensures.written

@@ -1,0 +1,5 @@
+pub mod Meaning
+pub mod Shown
+pub mod State
+pub mod Step
+pub mod Outcome
