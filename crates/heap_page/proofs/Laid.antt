@@ -29,6 +29,10 @@ PlacedIf page pointer = state_in pointer ≡ 1 → Placed page pointer
 abbrev pub Apart : ℕ → ℕ → Type 0
 Apart a b = state_in a ≡ 1 → state_in b ≡ 1 → (end_of_room a ≤ offset_in b) ⊎ (end_of_room b ≤ offset_in a)
 
+-- each two of the first n lines are apart
+abbrev pub PairsApart : List ℕ → ℕ → Type 0
+PairsApart page n = (k : ℕ) → k < n → (j : ℕ) → j < k → Apart (pointer_of page j) (pointer_of page k)
+
 pub record Laid (page : List ℕ) : Type 0 where
   pub header : Header page
   pub placed : (k : ℕ) → k < line_count page → PlacedIf page (pointer_of page k)
@@ -100,6 +104,15 @@ all_below_all p n i l h = sym (true-all_below p n (λ k b. h k (omega arith)))
 
 pub lines-few : (page : List ℕ) → IsTrue (is_header page) → line_count page ≤ 2042
 lines-few page h = let header = header-true page h in omega (arith, header.order, header.inside)
+
+pub lines-placed : (page : List ℕ) (n : ℕ) → all_below (λ k. is_placed page (pointer_of page k)) n ≡ true → (k : ℕ) → k < n → PlacedIf page (pointer_of page k)
+lines-placed page n h k b = placed-true page (pointer_of page k) (all_below-true _ n h k b)
+
+pub pairs-true : (page : List ℕ) (n : ℕ) → all_below (λ k. all_below (λ j. are_apart (pointer_of page j) (pointer_of page k)) k) n ≡ true → PairsApart page n
+pairs-true page n h k b j l = apart-true _ _ (all_below-true _ k (all_below-true _ n h k b) j l)
+
+pub true-pairs : (page : List ℕ) (n : ℕ) → PairsApart page n → all_below (λ k. all_below (λ j. are_apart (pointer_of page j) (pointer_of page k)) k) n ≡ true
+true-pairs page n h = true-all_below _ n (λ k b. true-all_below _ k (λ j l. true-apart _ _ (h k b j l)))
 
 pub laid-true : (page : List ℕ) → IsTrue (is_laid page) → Laid page
 unfolding is_laid

@@ -6,4 +6,5 @@ pub mod Laid
 pub mod LineLists
 pub mod Overwrite
 pub mod Rooms
+pub mod Taken
 pub mod Written

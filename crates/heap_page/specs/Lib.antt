@@ -4,4 +4,5 @@ pub mod Law
 pub mod Page
 pub mod Put
 pub mod Shown
+pub mod Unit
 pub mod Write

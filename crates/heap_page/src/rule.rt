@@ -1,6 +1,7 @@
-ghost use Rattle.std.specs.Prelude.{◌≡◌, ◌+◌, ◌<◌, IsTrue};
+ghost use Rattle.std.specs.Prelude.{◌≡◌, ◌↔◌, ℕ, ◌+◌, ◌≤◌, ◌<◌, true, false, length, get_or, IsTrue};
 ghost use Rattle.heap_page.specs.Item.{aligned};
 ghost use Rattle.heap_page.specs.Page.{pointer_of, line_count, is_zeros, is_header, is_placed, are_apart, all_below, is_laid, is_page};
+ghost use Rattle.heap_page.specs.Unit.{AreFree};
 
 use crate::line::Page;
 use crate::pointer::{NORMAL, Pointer, line_count, pointer_at};
@@ -85,45 +86,87 @@ fn end_of_room(pointer: Pointer) -> usize
     pointer.offset as usize + (pointer.length as usize + 7) / 8 * 8
 }
 
-/// Whether two lines do not point to tuples of which the rooms overlap.
-#[tactic(auto, using(std::proofs::lemmas::Bool::Decides::nat_tests), unfolding(crate::specs::Page::are_apart))]
-fn are_apart(page: &Page, j: usize, k: usize) -> bool
-    requires first { j < 2042 }
-    requires second { k < 2042 }
-    ensures { result ≡ are_apart (pointer_of page.now j) (pointer_of page.now k) }
+/// Takes the units of 8 bytes from `first` up to `end`, and answers whether each of them was free. After
+/// a refusal some of them are taken.
+fn take_units(taken: &mut [bool], first: usize, end: usize) -> bool
+    requires order { first ≤ end }
+    requires units { end ≤ length taken.old }
+    ensures free { IsTrue result ↔ AreFree taken.old first end }
+    ensures inside { IsTrue result → (unit : ℕ) → first ≤ unit → unit < end → get_or taken.new unit false ≡ true }
+    ensures before { (unit : ℕ) → unit < first → get_or taken.new unit false ≡ get_or taken.old unit false }
+    ensures past { (unit : ℕ) → end ≤ unit → get_or taken.new unit false ≡ get_or taken.old unit false }
 {
-    let a = pointer_at(page, j);
-    let b = pointer_at(page, k);
-    if a.state != NORMAL || b.state != NORMAL {
-        return true;
-    }
-    end_of_room(a) <= b.offset as usize || end_of_room(b) <= a.offset as usize
-}
-
-/// Whether a line is apart from each one before it.
-fn is_apart_from_earlier(page: &Page, k: usize) -> bool
-    requires { k < 2042 }
-    ensures { result ≡ all_below (λ j. are_apart (pointer_of page.now j) (pointer_of page.now k)) k }
-{
-    for j in 0..k {
-        if !are_apart(page, j, k) {
+    for unit in first..end {
+        if taken[unit] {
             return false;
         }
+        taken[unit] = true;
     }
     true
 }
 
-/// Whether each two lines are apart.
-fn lines_are_apart(page: &Page) -> bool
-    requires { IsTrue (is_header page.now) }
+/// Whether no unit of 8 bytes is taken by the tuples of two lines. All units are free before.
+fn units_are_taken_once(page: &Page, taken: &mut [bool]) -> bool
+    requires header { IsTrue (is_header page.now) }
+    requires placed { IsTrue (all_below (λ k. is_placed page.now (pointer_of page.now k)) (line_count page.now)) }
+    requires units { length taken.old ≡ 1024 }
+    requires free { AreFree taken.old 0 1024 }
     ensures { result ≡ all_below
         (λ k. all_below (λ j. are_apart (pointer_of page.now j) (pointer_of page.now k)) k)
         (line_count page.now) }
 {
     for k in 0..line_count(page) {
-        if !is_apart_from_earlier(page, k) {
-            return false;
+        let pointer = pointer_at(page, k);
+        if pointer.state == NORMAL {
+            let first = pointer.offset as usize / 8;
+            if !take_units(taken, first, end_of_room(pointer) / 8) {
+                return false;
+            }
         }
     }
     true
+}
+
+/// Whether no unit of 8 bytes is taken by the tuples of two lines.
+fn lines_share_no_unit(page: &Page) -> bool
+    requires header { IsTrue (is_header page.now) }
+    requires placed { IsTrue (all_below (λ k. is_placed page.now (pointer_of page.now k)) (line_count page.now)) }
+    ensures { result ≡ all_below
+        (λ k. all_below (λ j. are_apart (pointer_of page.now j) (pointer_of page.now k)) k)
+        (line_count page.now) }
+{
+    let mut taken = [false; 1024];
+    units_are_taken_once(page, &mut taken)
+}
+
+/// Whether each tuple ends at or before the begin of the one of the line before it, as on a page that was
+/// only filled. Such lines are apart.
+fn lines_descend(page: &Page) -> bool
+    requires { IsTrue (is_header page.now) }
+    ensures { IsTrue result → IsTrue (all_below
+        (λ k. all_below (λ j. are_apart (pointer_of page.now j) (pointer_of page.now k)) k)
+        (line_count page.now)) }
+{
+    let mut lowest = 8192;
+    for k in 0..line_count(page) {
+        let pointer = pointer_at(page, k);
+        if pointer.state == NORMAL {
+            if lowest < end_of_room(pointer) {
+                return false;
+            }
+            lowest = pointer.offset as usize;
+        }
+    }
+    true
+}
+
+/// Whether each two lines, all of them placed, are apart.
+fn lines_are_apart(page: &Page) -> bool
+    requires header { IsTrue (is_header page.now) }
+    requires placed { IsTrue (all_below (λ k. is_placed page.now (pointer_of page.now k)) (line_count page.now)) }
+    ensures { result ≡ all_below
+        (λ k. all_below (λ j. are_apart (pointer_of page.now j) (pointer_of page.now k)) k)
+        (line_count page.now) }
+{
+    lines_descend(page) || lines_share_no_unit(page)
 }
