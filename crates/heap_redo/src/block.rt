@@ -106,9 +106,15 @@ pub fn changed(page: &mut Page, rec: &Rec, block: &RecBlock) -> Result<(), Refus
     if rec.end.0 <= lsn(page).0 {
         return Ok(());
     }
-    let mut next = *page;
-    change(&mut next, rec, block)?;
-    set_lsn(&mut next, rec.end);
-    *page = next;
-    Ok(())
+    let before = *page;
+    match change(page, rec, block) {
+        Ok(()) => {
+            set_lsn(page, rec.end);
+            Ok(())
+        }
+        Err(refusal) => {
+            *page = before;
+            Err(refusal)
+        }
+    }
 }
