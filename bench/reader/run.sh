@@ -5,4 +5,4 @@ set -e
 here="$(cd "$(dirname "$0")" && pwd)"
 program="$here/../../crates/bench_reader"
 (cd "$program" && rt run >/dev/null)
-exec python3 "$here/compare.py" "$program/out/bench_reader" "${1:-16}"
+exec python3 -B "$here/compare.py" "$program/out/bench_reader" "${1:-16}"

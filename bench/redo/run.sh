@@ -1,0 +1,11 @@
+#!/bin/sh
+# Times the replay of the blocks of a log of inserts and HOT updates: of 32 MiB over 3,000 blocks, 107 MiB over 10,000,
+# 256 MiB over 24,000 and 320 MiB over 30,000 (or as the arguments MIB:BLOCKS say), beside the reader alone and
+# pg_waldump --quiet of an installed PostgreSQL over the same log.
+set -e
+here="$(cd "$(dirname "$0")" && pwd)"
+crates="$here/../../crates"
+(cd "$crates/bench_redo" && rt run >/dev/null)
+(cd "$crates/bench_reader" && rt run >/dev/null)
+[ $# -gt 0 ] || set -- 32:3000 107:10000 256:24000 320:30000
+exec python3 -B "$here/compare.py" "$crates/bench_redo/out/bench_redo" "$crates/bench_reader/out/bench_reader" "$@"
