@@ -1,6 +1,6 @@
 -- What replaying one record does to a node, and what is answered (xlogrecovery.c, PerformWalRecovery and
 -- ApplyWalRecord; xlog_redo of XLOG_BACKUP_END).
-use Rattle.std.specs.Prelude.{◌≡◌, ◌⊎◌, ◌==◌, Bool, false, Option, Some, None, Result, Ok, Err, if◌then◌else◌}
+use Rattle.std.specs.Prelude.{◌≡◌, ◌⊎◌, ℕ, ◌+◌, ◌^◌, ◌<◌, ◌≤◌, ◌==◌, Bool, false, Option, Some, None, Result, Ok, Err, if◌then◌else◌}
 use Rattle.pg_types.specs.declared.names.Lsn.{Lsn}
 use Rattle.wal_record.specs.declared.types.PrevRule.TheVariants.{Is}
 use Rattle.wal_reader.specs.declared.types.Stop.{Stop}
@@ -107,3 +107,10 @@ StaysUnlessApplied (Ok (Applied start at cancelled)) old new = Unit {0}
 StaysUnlessApplied (Ok (AtEnd lsn why)) old new = new ≡ record old { blocks = new.blocks; kept = new.kept }
 StaysUnlessApplied (Ok (Refused lsn what)) old new = new ≡ record old { blocks = new.blocks; kept = new.kept }
 StaysUnlessApplied (Err fault) old new = new ≡ record old { blocks = new.blocks; kept = new.kept }
+
+-- where a record was applied the node stands behind the position where it stood, and no position grows without bound
+abbrev pub MovesOn : Result Replayed NodeFault → ℕ → ℕ → Type 0
+MovesOn (Ok (Applied start at cancelled)) old new = (old < new) × (new ≤ 2 ^ 63 + 2 ^ 31)
+MovesOn (Ok (AtEnd lsn why)) old new = Unit {0}
+MovesOn (Ok (Refused lsn what)) old new = Unit {0}
+MovesOn (Err fault) old new = Unit {0}

@@ -64,3 +64,10 @@ RecReplays rec (Ok (Refused lsn what)) old new =
     × (lsn ≡ old.at)
 RecReplays rec (Err Archive) old new = ⊥
 RecReplays rec (Err Memory) old new = (new.blocks ≡ old.blocks) ⊎ RanOut rec old.known old.blocks new.blocks
+
+-- where a record was applied the node stands at its end
+abbrev pub EndsAt : Result Replayed NodeFault → Lsn → Standby → Type 0
+EndsAt (Ok (Applied start at cancelled)) end new = new.at ≡ end
+EndsAt (Ok (AtEnd lsn why)) end new = Unit {0}
+EndsAt (Ok (Refused lsn what)) end new = Unit {0}
+EndsAt (Err fault) end new = Unit {0}

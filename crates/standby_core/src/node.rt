@@ -47,12 +47,12 @@ impl Node {
     ghost use Rattle.heap_redo.specs.Redone.{view_of};
     ghost use Rattle.wal_record.specs.Decoded.{decoded};
     ghost use Rattle.wal_reader.specs.Calls.{WhereTold};
-    ghost use Rattle.wal_reader.specs.Standing.{Answers, StandsStill};
+    ghost use Rattle.wal_reader.specs.Standing.{Answers, MovesOn as ReadsOn, StandsStill};
     ghost use Rattle.wal_reader.specs.Step.{step};
     ghost use Rattle.wal_bodies.specs.Xids.{AreXidsShort};
     ghost use Rattle.standby_core.specs.Standby.{at_origin};
-    ghost use Rattle.standby_core.specs.Replay.{StaysUnlessApplied, awaited_after};
-    ghost use Rattle.standby_core.specs.Steps.{GivenReplays, Gives, RecReplays, TypedForm};
+    ghost use Rattle.standby_core.specs.Replay.{MovesOn, StaysUnlessApplied, awaited_after};
+    ghost use Rattle.standby_core.specs.Steps.{EndsAt, GivenReplays, Gives, RecReplays, TypedForm};
     ghost use Rattle.standby_core.specs.View.{HasParts, ReplaysTold, standby, status_of};
 
     /// A node at an origin, over a pool that was made for as many tables as are `known`. It awaits the end
@@ -131,6 +131,9 @@ impl Node {
     pub fn replay_one<A: Archive>(&mut self, archive: &mut A) -> Result<Replayed, NodeFault>
         ensures answer { ReplaysTold (archived_bytes (A.files archive.old) (standby self.old).segsize) result (standby self.old) (standby self.new) }
         ensures stays { StaysUnlessApplied result (standby self.old) (standby self.new) }
+        ensures onward { MovesOn result (standby self.old).at.0 (standby self.new).at.0 }
+        ensures known { (standby self.new).known ≡ (standby self.old).known }
+        ensures segsize { (standby self.new).segsize ≡ (standby self.old).segsize }
         ensures told { archived_bytes (A.files archive.new) (standby self.old).segsize ≡ archived_bytes (A.files archive.old) (standby self.old).segsize }
         ensures faults { A.fault_count archive.old ≤ A.fault_count archive.new }
         ensures cause { result ≡ Err NodeFault.Archive → Rose (A.fault_count archive.old) (A.fault_count archive.new) }
@@ -147,6 +150,7 @@ impl Node {
     fn read<A: Archive>(&mut self, archive: &mut A) -> Result<Next, ReadFault>
         ensures others { standby self.new ≡ record (standby self.old) { kept = (standby self.new).kept } }
         ensures still { StandsStill self.old.reader self.new.reader result }
+        ensures onward { IfOk result (ReadsOn self.old.reader.at) }
         ensures answer { WhereTold (archived_bytes (A.files archive.old) self.old.segsize) (λ _. 1) self.old.reader.source self.new.reader.source
             (λ told. Answers result self.old.reader.at (λ start. decoded self.new.reader.source.text start self.old.reader.prev) (step told self.old.reader.at.0 self.old.reader.prev)) }
         ensures told { archived_bytes (A.files archive.new) self.old.segsize ≡ archived_bytes (A.files archive.old) self.old.segsize }
@@ -162,6 +166,9 @@ impl Node {
         requires { Gives self.old.reader start end }
         ensures replays { GivenReplays self.old.reader start end result (standby self.old) (standby self.new) }
         ensures stays { StaysUnlessApplied result (standby self.old) (standby self.new) }
+        ensures ends { EndsAt result end (standby self.new) }
+        ensures known { (standby self.new).known ≡ (standby self.old).known }
+        ensures segsize { (standby self.new).segsize ≡ (standby self.old).segsize }
         ensures kept { (standby self.new).kept ≡ (standby self.old).kept }
         ensures no_archive { result ≡ Err NodeFault.Archive → ⊥ }
     {
@@ -195,6 +202,9 @@ impl Node {
         requires xids { AreXidsShort rec.now }
         ensures replays { RecReplays rec.now result (standby self.old) (standby self.new) }
         ensures stays { StaysUnlessApplied result (standby self.old) (standby self.new) }
+        ensures ends { EndsAt result rec.now.end (standby self.new) }
+        ensures known { (standby self.new).known ≡ (standby self.old).known }
+        ensures segsize { (standby self.new).segsize ≡ (standby self.old).segsize }
         ensures kept { (standby self.new).kept ≡ (standby self.old).kept }
     {
         reserve(rec, &mut self.state)?;
