@@ -1,0 +1,2 @@
+pub mod PageLoop
+pub mod PageAnswer
