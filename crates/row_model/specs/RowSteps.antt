@@ -1,0 +1,145 @@
+-- The steps of a record on the rows of a table, and the table's versions and blocks after a log.
+-- Sources: heapam_xlog.h; heapam.c (log_heap_update, heap_multi_insert); xlogutils.c (XLogReadBufferForRedo).
+use Rattle.std.specs.Prelude.{ℕ, ◌+◌, ◌==◌, Bool, true, false, not, ◌&&◌, ◌||◌, nat_le, max, List, [], ◌∷◌, ◌++◌, map, Option, Some, None, if◌then◌else◌}
+use Rattle.pg_types.specs.declared.names.Locator.{Locator}
+use Rattle.pg_types.specs.declared.names.Xid.{Xid}
+use Rattle.wal_record.specs.declared.new.NewImage.{NewImage}
+use Rattle.wal_bodies.specs.declared.types.NewTuple.{NewTuple}
+use Rattle.wal_bodies.specs.declared.types.RecBlock.{RecBlock}
+use Rattle.wal_bodies.specs.declared.types.Rec.{Rec}
+use Rattle.wal_bodies.specs.declared.types.RecKind.{RecKind}
+use Rattle.wal_bodies.specs.declared.types.RecKind.TheVariants.{Insert, Delete, Update, Lock, MultiInsert, LockUpdated}
+use Rattle.wal_bodies.specs.Fields.{has}
+use Rattle.wal_bodies.specs.Heads.{marked_mask}
+use Rattle.wal_bodies.specs.HeapKinds.{same_locator}
+use Rattle.wal_bodies.specs.After.{applied, is_images, joined, number_of, page_of_image, tuple_of, user_data}
+use Rattle.heap_tuple.specs.Tuple.{is_lock_only}
+use Rattle.heap_tuple.specs.declared.tuple_view.MaxOf.{MaxOf}
+use Rattle.heap_tuple.specs.declared.tuple_view.MaxOf.TheVariants.{None as NoDeleter, Xid as DeletedBy, Multi}
+use Rattle.heap_page.specs.Item.{Item, unused, normal, redirect, dead, numbered, tuple_in}
+use Rattle.heap_page.specs.Page.{items_of}
+use Rattle.heap_redo.specs.Redone.{is_left}
+use Rattle.row_model.specs.Versions.{Version, RowStep, Born, Deleter, Undone, version_at, with_steps}
+
+-- the deleter that a tuple shows once a record marked it with this xmax and these bits: none for a lock alone
+-- (XLHL_XMAX_LOCK_ONLY and the lock's strength; XLHL_XMAX_IS_MULTI)
+unfoldable pub deleter_of_mark : ℕ → ℕ → MaxOf
+deleter_of_mark xmax bits =
+    if is_lock_only (marked_mask bits 0) || (xmax == 0) then NoDeleter
+    else if has bits 1 then Multi xmax
+    else DeletedBy (record { 0 = xmax })
+
+-- the items that an image shows
+abbrev pub items_in : NewImage → List Item
+items_in image = items_of (page_of_image image)
+
+-- tuples that the record writes are born at these lines
+unfoldable pub births_written : ℕ → ℕ → List ℕ → List NewTuple → List RowStep
+births_written xid block [] tuples = []
+births_written xid block (line ∷ lines) [] = []
+births_written xid block (line ∷ lines) (tuple ∷ tuples) =
+    Born block line (tuple_of xid 0 block line tuple tuple.rest) ∷ births_written xid block lines tuples
+
+-- tuples that an image shows are born at these lines
+unfoldable pub births_shown : ℕ → List Item → List ℕ → List RowStep
+births_shown block items lines = map (λ line. Born block line (tuple_in (numbered items line))) lines
+
+-- tuples are born at these lines, read from the block's image where that is restored
+unfoldable pub births : Rec → RecBlock → Option NewImage → List ℕ → List RowStep
+births rec block None lines = births_written rec.head.xid.0 block.block lines block.tuples
+births rec block (Some image) lines = births_shown block.block (items_in image) lines
+
+-- the new version of an update, of which the record may leave out what it has of the old one
+unfoldable pub version_written : Rec → RecBlock → ℕ → ℕ → List ℕ → List NewTuple → List RowStep
+version_written rec block xmax line old [] = []
+version_written rec block xmax line old (tuple ∷ tuples) =
+    Born block.block line (tuple_of rec.head.xid.0 xmax block.block line tuple (joined tuple old)) ∷ []
+
+unfoldable pub version_put : Rec → RecBlock → Option NewImage → ℕ → ℕ → List ℕ → List RowStep
+version_put rec block None xmax line old = version_written rec block xmax line old block.tuples
+version_put rec block (Some image) xmax line old = births_shown block.block (items_in image) (line ∷ [])
+
+-- the values of the version at a place
+abbrev pub values_of : Option Version → List ℕ
+values_of None = []
+values_of (Some v) = user_data v.tuple
+
+-- an update: the old version gets its deleter, in block 1 where that is another than the new version's block 0
+unfoldable pub update_steps :
+    Rec → RecBlock → ℕ → ℕ → ℕ → ℕ → ℕ → Option ℕ → Option ℕ → List Version → List RowStep
+update_steps rec block old_xmax old_line old_bits new_xmax new_line (Some new_block) (Some old_block) vs =
+    if block.id == 0 then version_put rec block (applied block.image) new_xmax new_line []
+    else Deleter block.block old_line (deleter_of_mark old_xmax old_bits) ∷ []
+update_steps rec block old_xmax old_line old_bits new_xmax new_line (Some new_block) None vs =
+    Deleter block.block old_line (deleter_of_mark old_xmax old_bits)
+    ∷ version_put rec block (applied block.image) new_xmax new_line (values_of (version_at block.block old_line vs))
+update_steps rec block old_xmax old_line old_bits new_xmax new_line None old_block vs = []
+
+-- the steps of a record of this kind in one of its blocks; a deletion with XLH_DELETE_IS_SUPER takes a speculative
+-- insertion back
+unfoldable pub own_steps : Rec → RecBlock → RecKind → List Version → List RowStep
+own_steps rec block (Insert line flags) vs = births rec block (applied block.image) (line ∷ [])
+own_steps rec block (MultiInsert flags lines) vs = births rec block (applied block.image) lines
+own_steps rec block (Delete xmax line bits flags) vs =
+    if has flags 0x08 then Undone block.block line ∷ [] else Deleter block.block line (deleter_of_mark xmax bits) ∷ []
+own_steps rec block (Update old_xmax old_line old_bits flags new_xmax new_line) vs =
+    update_steps rec block old_xmax old_line old_bits new_xmax new_line (number_of 0 rec.blocks) (number_of 1 rec.blocks) vs
+own_steps rec block (Lock xmax line bits flags) vs = Deleter block.block line (deleter_of_mark xmax bits) ∷ []
+own_steps rec block (LockUpdated xmax line bits flags) vs = Deleter block.block line (deleter_of_mark xmax bits) ∷ []
+own_steps rec block _ vs = []
+
+-- whether a record of this kind puts tuples of its own into the block
+abbrev pub puts_tuples : RecBlock → RecKind → Bool
+puts_tuples block (Insert line flags) = true
+puts_tuples block (MultiInsert flags lines) = true
+puts_tuples block (Update old_xmax old_line old_bits flags new_xmax new_line) = block.id == 0
+puts_tuples block _ = false
+
+-- each normal item of a page is born, from this line on
+unfoldable pub births_of_items : ℕ → ℕ → List Item → List RowStep
+births_of_items block line [] = []
+births_of_items block line (unused ∷ items) = births_of_items block (line + 1) items
+births_of_items block line (normal tuple ∷ items) = Born block line tuple ∷ births_of_items block (line + 1) items
+births_of_items block line (redirect to ∷ items) = births_of_items block (line + 1) items
+births_of_items block line (dead ∷ items) = births_of_items block (line + 1) items
+
+-- a page that was written whole: the image of a block at or past the table's end, in a record that puts no tuple of
+-- its own there (log_newpage, xloginsert.c)
+unfoldable pub whole_steps : RecBlock → RecKind → Option NewImage → ℕ → List RowStep
+whole_steps block kind None count = []
+whole_steps block kind (Some image) count =
+    if not (puts_tuples block kind) && nat_le count block.block then births_of_items block.block 1 (items_in image) else []
+
+-- the steps of a record in one of its blocks, where the table has so many blocks and these versions before it
+abbrev pub block_steps : Rec → RecBlock → ℕ → List Version → List RowStep
+block_steps rec block count vs =
+    whole_steps block rec.kind (applied block.image) count ++ own_steps rec block rec.kind vs
+
+-- the steps in those of these blocks that are the table's
+unfoldable pub steps_in : Rec → Locator → ℕ → List Version → List RecBlock → List RowStep
+steps_in rec table count vs [] = []
+steps_in rec table count vs (block ∷ blocks) =
+    (if same_locator table block.locator then block_steps rec block count vs else []) ++ steps_in rec table count vs blocks
+
+-- how many blocks the table has after a record that has these: one past the greatest that was changed
+unfoldable pub count_with : Rec → Locator → ℕ → List RecBlock → ℕ
+count_with rec table count [] = count
+count_with rec table count (block ∷ blocks) =
+    count_with rec table
+    (if same_locator table block.locator && not (is_left rec block) then max count (block.block + 1) else count)
+    blocks
+
+-- how many blocks the table has after a log, the newest record first; at the log's origin it has none
+unfoldable pub block_count : Locator → List Rec → ℕ
+block_count table [] = 0
+block_count table (rec ∷ older) = count_with rec table (block_count table older) rec.blocks
+
+-- the steps of a record after these versions in so many blocks
+abbrev pub steps_of : Rec → Locator → ℕ → List Version → List RowStep
+steps_of rec table count vs = steps_in rec table count vs rec.blocks
+
+-- the table's versions after a log, the newest record first; at the log's origin it has none
+unfoldable pub versions : Locator → List Rec → List Version
+versions table [] = []
+versions table (rec ∷ older) =
+    with_steps (versions table older) (steps_of rec table (block_count table older) (versions table older))

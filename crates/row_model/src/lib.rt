@@ -1,0 +1,17 @@
+//! The rows of a table along the log: the steps of its records on the versions of rows, the rows after a
+//! position, and what a primary keeps to when it writes of them.
+#![tactic(auto)]
+
+ghost use Rattle.row_model.specs.Rows.{OneRows};
+ghost use Rattle.row_model.specs.WorkedRows.{IsWorkedRows};
+
+/// One list of rows is that of some versions.
+pub fn one_rows()
+    ensures { OneRows }
+{}
+
+/// The log that is worked by hand keeps to the rules, and its rows are as worked: so the rules can be met, with a row
+/// that is updated.
+pub fn worked_rows()
+    ensures { IsWorkedRows }
+{}
