@@ -1,0 +1,267 @@
+-- What a record changes in a block goes with its steps there.
+use Rattle.std.proofs.Common.{◌≡◌, ℕ, suc, ◌-◌, ◌^◌, ◌<◌, ◌==◌, Bool, true, false, bit_and, List, [], ◌∷◌, ◌++◌, length, take, drop, All, Option, Some, None, Result, Ok, Err, refl, sym, ap, subst, ◌∙◌, arith, if◌then◌else◌}
+use Rattle.std.proofs.lemmas.Bool.{false≢true}
+use Rattle.std.proofs.lemmas.List.Elements.{All-append, All-drop, All-nil, All-take}
+use Rattle.heap_tuple.specs.Tuple.{IsTuple, hoff_of}
+use Rattle.heap_page.specs.Item.{Item, normal, numbered, is_normal, tuple_in}
+use Rattle.transaction_model.specs.Transactions.{Statuses, TransactionRecord}
+use Rattle.wal_record.specs.declared.new.NewImage.{NewImage}
+use Rattle.wal_bodies.specs.declared.types.NewTuple.{NewTuple}
+use Rattle.wal_bodies.specs.declared.types.RecBlock.{RecBlock}
+use Rattle.wal_bodies.specs.declared.types.Rec.{Rec}
+use Rattle.wal_bodies.specs.declared.types.RecKind.{RecKind}
+use Rattle.wal_bodies.specs.declared.types.RecKind.TheVariants.{Checkpoint, BackupEnd, Parameters, FullPageWrites, Images, Overwrite, Ended, Running, Insert, Delete, Update, Confirm, Lock, MultiInsert, LockUpdated, Other}
+use Rattle.wal_bodies.specs.Fields.{has}
+use Rattle.wal_bodies.specs.Heads.{Head, marked, deleted, replaced, locked}
+use Rattle.wal_bodies.specs.After.{BlockRefusal, no_tuple, ◌>>=◌, applied, put, put_listed, put_version, change_head, tuple_of, joined, user_data, is_short, update_old, update_within, update, number_of, changed}
+use Rattle.row_model.specs.Versions.{Version, RowStep, Born, Deleter, Undone, version_at, with_step, with_steps}
+use Rattle.row_model.specs.RowSteps.{deleter_of_mark, births_written, births, version_written, version_put, values_of, update_steps, own_steps}
+use Rattle.row_model.specs.LegalRows.{AreBytes, TupleFits, BlockFits, KindFits, RecordFits, ShowsPlace, ShowsBlock, StepsRule}
+use Rattle.row_redo.proofs.Fitting.{TuplesFit}
+use Rattle.row_redo.proofs.Heads.{head-bytes, same-values, Marks, marks-marked, marks-replaced, marks-locked, marks-deleted}
+use Rattle.row_redo.proofs.OneLine.{change-done}
+use Rattle.row_redo.proofs.OneStep.{born-shown, deleter-shown, undone-shown, pointed-shown}
+
+-- a block shows these versions, and its tuples fit
+abbrev pub Shown : Statuses → List TransactionRecord → List Version → ℕ → List Item → Type 0
+Shown s log vs block items = ShowsBlock s log vs block items × TuplesFit items
+
+-- a written tuple is bytes
+tuple-bytes :
+    (xid xmax block line : ℕ) (tuple : NewTuple) (rest : List ℕ) → TupleFits tuple → AreBytes rest
+    → AreBytes (tuple_of xid xmax block line tuple rest)
+unfolding tuple_of
+tuple-bytes xid xmax block line tuple rest fits h =
+    head-bytes (record {
+      xmin = xid;
+      xmax = xmax;
+      cid = 0;
+      ctid_block = block;
+      ctid_line = line;
+      mask2 = tuple.mask2;
+      mask = tuple.mask;
+      hoff = tuple.hoff;
+    }) rest fits.hoff h
+
+joined-bytes : (tuple : NewTuple) (old : List ℕ) → TupleFits tuple → AreBytes old → AreBytes (joined tuple old)
+unfolding joined
+joined-bytes tuple old fits h =
+    let P = λ (byte : ℕ). byte < 256 in
+    let n = tuple.hoff - 23 in
+    let a = All-take P n tuple.rest fits.rest in
+    let b = All-take P tuple.prefix old h in
+    let c = All-drop P n tuple.rest fits.rest in
+    let d = All-drop P (length old - tuple.suffix) old h in
+    let xs = take n tuple.rest in
+    let ys = take tuple.prefix old in
+    let zs = drop n tuple.rest in
+    let ws = drop (length old - tuple.suffix) old in
+    All-append P (xs ++ ys ++ zs) ws (All-append P (xs ++ ys) zs (All-append P xs ys a b) c) d
+
+first-of : {X : Type 0} (P : X → Type 0) (x : X) (xs : List X) → All P (x ∷ xs) → P x
+first-of P x xs h = h 0 x (omega arith)
+
+rest-of : {X : Type 0} (P : X → Type 0) (x : X) (xs : List X) → All P (x ∷ xs) → All P xs
+rest-of P x xs h = λ k d l. h (suc k) d (omega arith)
+
+-- where one change is followed by another, both were made
+both-done :
+    {B : Type 0} (first : Result (List Item) BlockRefusal) (next : List Item → Result B BlockRefusal) (after : B)
+    → (first >>= next) ≡ Ok after → (items : List Item) × (first ≡ Ok items) × (next items ≡ Ok after)
+both-done (Ok items) next after e = (items, refl, e)
+both-done (Err refusal) next after e = absurd (cc)
+
+-- tuples are put one after the other
+listed-shown :
+    (s : Statuses) (log : List TransactionRecord) (vs : List Version) (xid block : ℕ) (lines : List ℕ) (tuples : List NewTuple)
+    (items after : List Item) → All TupleFits tuples → StepsRule s log vs (births_written xid block lines tuples)
+    → Shown s log vs block items → put_listed xid block lines tuples items ≡ Ok after
+    → Shown s log (with_steps vs (births_written xid block lines tuples)) block after
+unfolding births_written put_listed with_steps
+listed-shown s log vs xid block [] tuples items after fits rule shown e = subst (Shown s log vs block) (cc) shown
+listed-shown s log vs xid block (line ∷ lines) [] items after fits rule shown e = subst (Shown s log vs block) (cc) shown
+listed-shown s log vs xid block (line ∷ lines) (tuple ∷ tuples) items after fits (rule, rules) (shows, fit) e =
+    let new = tuple_of xid 0 block line tuple tuple.rest in
+    let (next, first, rest) = both-done (put line new items) (put_listed xid block lines tuples) after e in
+    let one = first-of TupleFits tuple tuples fits in
+    let step = born-shown s log vs block line new items next rule (tuple-bytes xid 0 block line tuple tuple.rest one one.rest) fit shows first in
+    listed-shown s log (with_step vs (Born block line new)) xid block lines tuples next after (rest-of TupleFits tuple tuples fits) rules step rest
+
+-- the new version of an update is put
+version-shown :
+    (s : Statuses) (log : List TransactionRecord) (vs : List Version) (rec : Rec) (block : RecBlock) (xmax line : ℕ) (old : List ℕ)
+    (tuples : List NewTuple) (items after : List Item) → All TupleFits tuples → AreBytes old
+    → StepsRule s log vs (version_written rec block xmax line old tuples) → Shown s log vs block.block items
+    → put_version rec.head.xid.0 xmax block.block line tuples old items ≡ Ok after
+    → Shown s log (with_steps vs (version_written rec block xmax line old tuples)) block.block after
+unfolding version_written put_version with_steps
+version-shown s log vs rec block xmax line old [] items after fits bytes rule shown e = subst (Shown s log vs block.block) (cc) shown
+version-shown s log vs rec block xmax line old (tuple ∷ tuples) items after fits bytes (rule, rules) (shows, fit) e =
+    let one = first-of TupleFits tuple tuples fits in
+    born-shown s log vs block.block line (tuple_of rec.head.xid.0 xmax block.block line tuple (joined tuple old)) items after rule
+    (tuple-bytes rec.head.xid.0 xmax block.block line tuple (joined tuple old) one (joined-bytes tuple old one bytes)) fit shows e
+
+-- the values of a line's tuple are those of the version that it shows
+old-values :
+    (s : Statuses) (log : List TransactionRecord) (o : Option Version) (item : Item) (tuple : List ℕ) → item ≡ normal tuple
+    → IsTuple tuple → ShowsPlace s log o item → user_data (tuple_in item) ≡ values_of o
+old-values s log None item tuple was rule shows = absurd (false≢true (sym shows ∙ ap is_normal was))
+old-values s log (Some v) item tuple was rule (own, is, shows) =
+    let same : own ≡ tuple = ap tuple_in (sym is ∙ was) in
+    let good : IsTuple own = subst IsTuple (sym same) rule in
+    ap (λ i. user_data (tuple_in i)) is ∙ same-values own v.tuple good shows.row.bytes
+
+-- a change that is not refused, where a test would refuse it
+unless : {X : Type 0} (b : Bool) (refusal : BlockRefusal) (result : Result X BlockRefusal) (after : X) → (if b then Err refusal else result) ≡ Ok after → result ≡ Ok after
+unless true refusal result after e = absurd (cc)
+unless false refusal result after e = e
+
+-- an update within one block: the old version gets its deleter, and the new one is put
+within-shown :
+    (s : Statuses) (log : List TransactionRecord) (vs : List Version) (rec : Rec) (block : RecBlock) (is_hot : Bool)
+    (old_xmax old_line old_bits new_xmax new_line : ℕ) (items after : List Item) → All TupleFits block.tuples → old_xmax < 2 ^ 32
+    → StepsRule s log vs (Deleter block.block old_line (deleter_of_mark old_xmax old_bits)
+    ∷ version_written rec block new_xmax new_line (values_of (version_at block.block old_line vs)) block.tuples)
+    → Shown s log vs block.block items
+    → update_within rec block is_hot old_xmax old_line old_bits new_xmax new_line items ≡ Ok after
+    → Shown s log (with_steps vs (Deleter block.block old_line (deleter_of_mark old_xmax old_bits)
+    ∷ version_written rec block new_xmax new_line (values_of (version_at block.block old_line vs)) block.tuples)) block.block after
+unfolding update_within update_old with_steps
+within-shown s log vs rec block is_hot old_xmax old_line old_bits new_xmax new_line items after fits small (rule, rules) (shows, fit) e =
+    let old = user_data (tuple_in (numbered items old_line)) in
+    let mark = λ (head : Head). replaced old_xmax old_bits is_hot block.block new_line head in
+    let put_new = λ (next : List Item). if is_short block.tuples old then Err (no_tuple old_line)
+    else put_version rec.head.xid.0 new_xmax block.block new_line block.tuples old next in
+    let (next, first, rest) = both-done (change_head old_line mark items) put_new after e in
+    let put_ok = unless (is_short block.tuples old) (no_tuple old_line)
+    (put_version rec.head.xid.0 new_xmax block.block new_line block.tuples old next) after rest in
+    let done = change-done old_line mark items next first in
+    let (bytes, good) = fit old_line done.tuple done.was in
+    let values = old-values s log (version_at block.block old_line vs) (numbered items old_line) done.tuple done.was good (shows old_line) in
+    let old_bytes : AreBytes old = subst (λ (i : Item). AreBytes (user_data (tuple_in i))) (sym done.was) (All-drop (λ (byte : ℕ). byte < 256) (hoff_of done.tuple) done.tuple bytes) in
+    let step = deleter-shown s log vs block.block old_line mark old_xmax old_bits items next small
+    (λ head. marks-replaced old_xmax old_bits is_hot block.block new_line head) fit shows first in
+    let then_vs = with_step vs (Deleter block.block old_line (deleter_of_mark old_xmax old_bits)) in
+    subst (λ (o : List ℕ). Shown s log (with_steps then_vs (version_written rec block new_xmax new_line o block.tuples)) block.block after) values
+    (version-shown s log then_vs rec block new_xmax new_line old block.tuples next after fits old_bytes
+    (subst (λ (o : List ℕ). StepsRule s log then_vs (version_written rec block new_xmax new_line o block.tuples)) (sym values) rules) step put_ok)
+
+-- the same for steps that are equal to these
+along :
+    (s : Statuses) (log : List TransactionRecord) (vs : List Version) (block : ℕ) (after : List Item) (steps others : List RowStep)
+    → steps ≡ others → (StepsRule s log vs others → Shown s log (with_steps vs others) block after) → StepsRule s log vs steps
+    → Shown s log (with_steps vs steps) block after
+along s log vs block after steps others e done rule =
+    subst (λ (l : List RowStep). Shown s log (with_steps vs l) block after) (sym e) (done (subst (StepsRule s log vs) e rule))
+
+-- the steps where no image is restored
+births-none : (rec : Rec) (block : RecBlock) (image : Option NewImage) (lines : List ℕ) → image ≡ None → births rec block image lines ≡ births_written rec.head.xid.0 block.block lines block.tuples
+unfolding births
+births-none rec block image lines none = rw none refl
+
+put-none :
+    (rec : Rec) (block : RecBlock) (image : Option NewImage) (xmax line : ℕ) (old : List ℕ) → image ≡ None
+    → version_put rec block image xmax line old ≡ version_written rec block xmax line old block.tuples
+unfolding version_put
+put-none rec block image xmax line old none = rw none refl
+
+module _ (s : Statuses) (log : List TransactionRecord) (vs : List Version) (rec : Rec) (block : RecBlock) (items after : List Item) (fits : All TupleFits block.tuples) (none : applied block.image ≡ None) (shown : Shown s log vs block.block items) where
+  births-shown :
+      (lines : List ℕ) → put_listed rec.head.xid.0 block.block lines block.tuples items ≡ Ok after
+      → StepsRule s log vs (births rec block (applied block.image) lines)
+      → Shown s log (with_steps vs (births rec block (applied block.image) lines)) block.block after
+  births-shown lines e rule =
+      along s log vs block.block after (births rec block (applied block.image) lines) (births_written rec.head.xid.0 block.block lines block.tuples)
+      (births-none rec block (applied block.image) lines none)
+      (λ r. listed-shown s log vs rec.head.xid.0 block.block lines block.tuples items after fits r shown e) rule
+
+  head-changed :
+      (line xmax bits : ℕ) (f : Head → Head) → xmax < 2 ^ 32 → ((head : Head) → Marks head.xmin xmax bits head (f head))
+      → change_head line f items ≡ Ok after
+      → Shown s log (with_steps vs (Deleter block.block line (deleter_of_mark xmax bits) ∷ [])) block.block after
+  unfolding with_steps
+  head-changed line xmax bits f small marks e = deleter-shown s log vs block.block line f xmax bits items after small marks shown.1 shown.0 e
+
+  deletion-shown :
+      (xmax line bits flags : ℕ) (super : Bool) → xmax < 2 ^ 32 → has flags 0x08 ≡ super
+      → StepsRule s log vs (if super then Undone block.block line ∷ [] else Deleter block.block line (deleter_of_mark xmax bits) ∷ [])
+      → change_head line (λ head. deleted xmax bits flags block.block line head) items ≡ Ok after
+      → Shown s log (with_steps vs (if super then Undone block.block line ∷ [] else Deleter block.block line (deleter_of_mark xmax bits) ∷ [])) block.block after
+  unfolding with_steps
+  deletion-shown xmax line bits flags true small is (rule, rules) e =
+      undone-shown s log vs block.block line xmax bits flags items after is rule shown.1 shown.0 e
+  deletion-shown xmax line bits flags false small is rule e =
+      head-changed line xmax bits (λ head. deleted xmax bits flags block.block line head) small
+      (λ head. marks-deleted xmax bits flags block.block line head is) e
+
+  -- of an update over two blocks, the block of the new version, and that of the old one
+  two-shown :
+      (old_xmax old_line old_bits new_xmax new_line new_block : ℕ) (is_new : Bool) → old_xmax < 2 ^ 32
+      → StepsRule s log vs (if is_new then version_put rec block (applied block.image) new_xmax new_line [] else Deleter block.block old_line (deleter_of_mark old_xmax old_bits) ∷ [])
+      → (if is_new then put_version rec.head.xid.0 new_xmax block.block new_line block.tuples [] items
+      else update_old (bit_and rec.head.info 0x70 == 0x40) old_xmax old_line old_bits new_block new_line items) ≡ Ok after
+      → Shown s log (with_steps vs (if is_new then version_put rec block (applied block.image) new_xmax new_line [] else Deleter block.block old_line (deleter_of_mark old_xmax old_bits) ∷ [])) block.block after
+  unfolding update_old
+  two-shown old_xmax old_line old_bits new_xmax new_line new_block true small rule e =
+      along s log vs block.block after (version_put rec block (applied block.image) new_xmax new_line [])
+      (version_written rec block new_xmax new_line [] block.tuples)
+      (put-none rec block (applied block.image) new_xmax new_line [] none)
+      (λ r. version-shown s log vs rec block new_xmax new_line [] block.tuples items after fits (All-nil (λ (byte : ℕ). byte < 256)) r shown e) rule
+  two-shown old_xmax old_line old_bits new_xmax new_line new_block false small rule e =
+      let is_hot = bit_and rec.head.info 0x70 == 0x40 in
+      head-changed old_line old_xmax old_bits (λ head. replaced old_xmax old_bits is_hot new_block new_line head) small
+      (λ head. marks-replaced old_xmax old_bits is_hot new_block new_line head) e
+
+  update-shown :
+      (old_xmax old_line old_bits new_xmax new_line : ℕ) (new_block old_block : Option ℕ) → old_xmax < 2 ^ 32
+      → StepsRule s log vs (update_steps rec block old_xmax old_line old_bits new_xmax new_line new_block old_block vs)
+      → update rec block old_xmax old_line old_bits new_xmax new_line new_block old_block items ≡ Ok after
+      → Shown s log (with_steps vs (update_steps rec block old_xmax old_line old_bits new_xmax new_line new_block old_block vs)) block.block after
+  unfolding update_steps update with_steps
+  update-shown old_xmax old_line old_bits new_xmax new_line (Some new_block) (Some old_block) small rule e =
+      two-shown old_xmax old_line old_bits new_xmax new_line new_block (block.id == 0) small rule e
+  update-shown old_xmax old_line old_bits new_xmax new_line (Some new_block) None small rule e =
+      let is_hot = bit_and rec.head.info 0x70 == 0x40 in
+      let old = values_of (version_at block.block old_line vs) in
+      let step = Deleter block.block old_line (deleter_of_mark old_xmax old_bits) in
+      along s log vs block.block after (step ∷ version_put rec block (applied block.image) new_xmax new_line old)
+      (step ∷ version_written rec block new_xmax new_line old block.tuples)
+      (ap (λ l. step ∷ l) (put-none rec block (applied block.image) new_xmax new_line old none))
+      (λ r. within-shown s log vs rec block is_hot old_xmax old_line old_bits new_xmax new_line items after fits small r shown e) rule
+  update-shown old_xmax old_line old_bits new_xmax new_line None old_block small rule e = subst (Shown s log vs block.block) (cc) shown
+
+  kind-shown :
+      (kind : RecKind) → KindFits kind → StepsRule s log vs (own_steps rec block kind vs) → changed rec block kind items ≡ Ok after
+      → Shown s log (with_steps vs (own_steps rec block kind vs)) block.block after
+  unfolding own_steps changed with_steps
+  kind-shown (Insert line flags) f rule e = births-shown (line ∷ []) e rule
+  kind-shown (MultiInsert flags lines) f rule e = births-shown lines e rule
+  kind-shown (Delete xmax line bits flags) f rule e = deletion-shown xmax line bits flags (has flags 0x08) f.0 refl rule e
+  kind-shown (Update old_xmax old_line old_bits flags new_xmax new_line) f rule e =
+      update-shown old_xmax old_line old_bits new_xmax new_line (number_of 0 rec.blocks) (number_of 1 rec.blocks) f.0 rule e
+  kind-shown (Lock xmax line bits flags) f rule e =
+      head-changed line xmax bits (λ head. locked xmax bits block.block line head) f.0
+      (λ head. marks-locked xmax bits block.block line head) e
+  kind-shown (LockUpdated xmax line bits flags) f rule e =
+      head-changed line xmax bits (λ head. marked xmax bits head) f.0 (λ head. marks-marked xmax bits head) e
+  kind-shown (Confirm line) f rule e = pointed-shown s log vs block.block line block.block items after shown.1 shown.0 e
+  kind-shown (Checkpoint redo timeline previous writes next multi member oldest active) f rule e = subst (Shown s log vs block.block) (cc) shown
+  kind-shown (BackupEnd start) f rule e = subst (Shown s log vs block.block) (cc) shown
+  kind-shown (Parameters connections processes senders prepared locks level) f rule e = subst (Shown s log vs block.block) (cc) shown
+  kind-shown (FullPageWrites on) f rule e = subst (Shown s log vs block.block) (cc) shown
+  kind-shown Images f rule e = subst (Shown s log vs block.block) (cc) shown
+  kind-shown (Overwrite given_up time) f rule e = subst (Shown s log vs block.block) (cc) shown
+  kind-shown (Ended time xinfo xids) f rule e = subst (Shown s log vs block.block) (cc) shown
+  kind-shown (Running tops subs overflow next oldest latest xids) f rule e = subst (Shown s log vs block.block) (cc) shown
+  kind-shown Other f rule e = subst (Shown s log vs block.block) (cc) shown
+
+-- After a change that is not refused a block shows the versions after the record's steps in it.
+pub changed_shows :
+    (s : Statuses) (log : List TransactionRecord) (vs : List Version) (rec : Rec) (block : RecBlock) (items after : List Item)
+    → RecordFits rec → BlockFits block → applied block.image ≡ None → TuplesFit items
+    → StepsRule s log vs (own_steps rec block rec.kind vs)
+    → ShowsBlock s log vs block.block items
+    → changed rec block rec.kind items ≡ Ok after
+    → ShowsBlock s log (with_steps vs (own_steps rec block rec.kind vs)) block.block after × TuplesFit after
+changed_shows s log vs rec block items after fits block_fits none fit rule shows e =
+    kind-shown s log vs rec block items after block_fits.tuples none (shows, fit) rec.kind fits.kind rule e
