@@ -1,0 +1,27 @@
+//! After a legal log a snapshot of the standby sees exactly the rows.
+#![tactic(auto)]
+
+ghost use Rattle.row_visibility.specs.Sees.{SeesRows, StateAlong, XminAlong};
+
+/// The state of the rules is that of the log.
+pub fn state_along()
+    ensures { StateAlong }
+{
+    transaction_model::transactions::state_agrees();
+}
+
+/// The xmin of a snapshot is the least live id.
+pub fn xmin_along()
+    ensures { XminAlong }
+{
+    transaction_model::transactions::state_agrees();
+    transaction_model::transactions::xmin_agrees();
+}
+
+/// A snapshot sees exactly the tuples whose versions are rows.
+pub fn sees_rows()
+    ensures { SeesRows }
+{
+    transaction_model::transactions::state_agrees();
+    transaction_model::transactions::ids_decide();
+}
