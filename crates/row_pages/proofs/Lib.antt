@@ -1,0 +1,7 @@
+mod Each
+mod Found
+mod Permuted
+mod Places
+mod Rows
+mod SameRow
+mod Scanned

@@ -1,0 +1,9 @@
+//! A scan over blocks that show a table's versions gives its rows.
+#![tactic(auto)]
+
+ghost use Rattle.row_pages.specs.Pages.{ScanGivesRows};
+
+/// Where the blocks show the versions and the snapshot sees the rows, a scan gives the rows, block by block.
+pub fn scan_gives_rows()
+    ensures { ScanGivesRows }
+{}
