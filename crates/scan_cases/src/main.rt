@@ -11,52 +11,78 @@ use std::{fs, io};
 const SEGMENT_FILE: &str = "000000010000000000000002";
 
 /// The files with the segment's first bytes.
-const CASES: [&str; 45] = [
+const CASES: [&str; 71] = [
     "plain",
     "empty_table",
     "first_header_unread",
-    "short_header",
     "no_bytes",
     "header_alone",
     "wrong_crc",
     "wrong_link",
     "first_link_at_itself",
+    "no_running",
     "third_record_missing",
+    "other_backup_end",
+    "shutdown_checkpoint",
     "overflowed_running",
     "overflow_byte_alone",
-    "redo_elsewhere",
-    "other_backup_end",
-    "delete",
+    "uncommitted",
     "abort",
     "commit_with_subtransactions",
+    "running_never_commits",
+    "marked_committed",
+    "long_commit",
+    "delete",
+    "delete_aborted",
+    "hot_update",
+    "multi_insert",
+    "every_kind",
+    "passed_over",
     "image",
+    "image_not_applied",
+    "bad_image",
+    "bad_tuple",
     "place_taken",
-    "block_past_end",
-    "next_block_not_made",
     "line_0",
-    "greatest_xid",
+    "delete_absent",
+    "longer_than_the_old_tuple",
+    "greatest_line",
+    "greatest_block",
+    "next_block_not_made",
+    "block_past_end",
+    "several_blocks",
     "other_table",
     "null",
     "external",
-    "short_main_data",
+    "compressed_text",
     "short_text",
-    "long_commit",
+    "short_number",
+    "many_columns",
+    "multixact",
+    "short_main_data",
+    "prepared",
+    "in_place",
+    "minimal",
+    "page_writes_off",
+    "database_dropped",
+    "greatest_xid",
+    "greatest_subtransaction",
+    "prune",
+    "table_lock",
+    "assignment",
+    "compressed",
+    "too_long",
+    "longest_cut",
     "crosses_page",
     "second_page_missing",
     "second_page_of_timeline_2",
     "wrong_remaining_length",
     "second_page_of_another_address",
-    "switch",
-    "noop",
-    "overwritten",
-    "compressed",
-    "too_long",
-    "longest_cut",
     "ends_at_page_end",
     "cut_in_length_field",
     "cut_in_record",
-    "several_blocks",
-    "uncommitted",
+    "switch",
+    "overwritten",
 ];
 
 fn main(rt: HostRuntime) -> io::Result<()> {
@@ -68,18 +94,26 @@ fn main(rt: HostRuntime) -> io::Result<()> {
     failures(&rt)
 }
 
-/// Words other than `scan t`, over a log that is read.
+/// Words other than `scan t`, each over the log of a case.
 fn other_words(rt: &HostRuntime) -> io::Result<()> {
-    let cases: [(&str, &[&str]); 6] = [
-        ("no words", &[]),
-        ("one word", &["scan"]),
-        ("three words", &["scan", "t", "t"]),
-        ("another command", &["scam", "t"]),
-        ("an empty table", &["scan", ""]),
-        ("another table", &["scan", "u"]),
+    let cases: [(&str, &str, &[&str]); 10] = [
+        ("no words", "plain", &[]),
+        ("one word", "plain", &["scan"]),
+        ("three words", "plain", &["scan", "t", "t"]),
+        ("another command", "plain", &["scam", "t"]),
+        ("an empty table", "plain", &["scan", ""]),
+        ("an unknown table", "plain", &["scan", "v"]),
+        ("an unknown table, no scans", "header_alone", &["scan", "v"]),
+        (
+            "an unknown table, a refused log",
+            "compressed",
+            &["scan", "v"],
+        ),
+        ("another table", "other_table", &["scan", "u"]),
+        ("another table without blocks", "plain", &["scan", "u"]),
     ];
-    for (name, texts) in cases {
-        let mut archive = archive_of(rt, "plain")?;
+    for (name, log, texts) in cases {
+        let mut archive = archive_of(rt, log)?;
         report(rt, name, texts, &mut archive)?;
     }
     Ok(())

@@ -55,3 +55,16 @@ some_from_write before now x (Ok v) p = p
 some_from_write before now x (Err Failed) p = p
 some_from_write None now x (Err Memory) p = tt
 some_from_write (Some a) now x (Err Memory) p = (0, p ∙ ap (λ (t : List ℕ). Some t) (sym (append-nil a)))
+
+-- nothing was written
+pub nothing_appended : (now : Option (List ℕ)) → Appends now now []
+nothing_appended None = tt
+nothing_appended (Some a) = ap (λ (t : List ℕ). Some t) (sym (append-nil a))
+
+pub nothing_written : (now : Option (List ℕ)) → AppendsPrefix now now []
+nothing_written None = tt
+nothing_written (Some a) = (0, ap (λ (t : List ℕ). Some t) (sym (append-nil a)))
+
+-- so it is a prefix of any text
+pub prefix_of_any : (now : Option (List ℕ)) (text : List ℕ) → AppendsPrefix now now text
+prefix_of_any now text = prefix_of_longer now now [] text (nothing_written now)

@@ -1,6 +1,6 @@
 pub mod Appending
 pub mod Faults
-pub mod Replays
-pub mod Scans
-pub mod States
-pub mod Walk
+pub mod Legal
+pub mod Opening
+pub mod Pages
+pub mod Replaying

@@ -1,5 +1,3 @@
 pub mod Meaning
-pub mod Shown
-pub mod State
-pub mod Step
 pub mod Outcome
+pub mod Replays

@@ -1,62 +1,38 @@
--- What the program's types mean in the model.
-use Rattle.std.specs.Prelude.{map}
-use Rattle.standby_cli.specs.declared.body.Body.{Body}
-use Rattle.standby_cli.specs.declared.body.Body.TheVariants as said
-use Rattle.standby_cli.specs.declared.body.Inserter.{Inserter}
-use Rattle.standby_cli.specs.declared.body.Inserter.TheVariants as by
-use Rattle.standby_cli.specs.declared.body.Tuple.{Tuple}
-use Rattle.standby_cli.specs.declared.answer.Stop.{Stop}
-use Rattle.standby_cli.specs.declared.answer.Stop.TheVariants as stop
-use Rattle.standby_cli.specs.declared.reply.Refusal.{Refusal}
-use Rattle.standby_cli.specs.declared.reply.Refusal.TheVariants as refusal
-use Rattle.standby_cli.specs.declared.replay.Version.{Version}
+-- What the program's answers mean in the model.
+use Rattle.std.specs.Prelude.{ℕ, Bool, List, Result}
+use Rattle.heap_redo.specs.Redone.{seen}
+use Rattle.page_store.specs.Content.{Blocks, content}
+use Rattle.heap_tuple.specs.declared.cell.Column.{Column}
+use Rattle.pg_types.specs.declared.status.Status.{Status}
+use Rattle.pg_types.specs.declared.status.Unknown.{Unknown}
+use Rattle.commit_log.specs.Log.{status_of}
+use Rattle.standby_snapshot.specs.Snapshot.{SnapshotData, in_numbers, no_parents}
+use Rattle.tuple_visibility.specs.Visible.{visible_of}
+use Rattle.seq_scan.specs.BlockRows.{BlockRows, block_rows}
+use Rattle.xact_redo.specs.Sees.{no_multixacts}
+use Rattle.standby_model.specs.Scan as scan
+use Rattle.standby_model.specs.Tables.{table_with}
 use Rattle.standby_cli.specs.declared.reply.Reply.{Reply}
 use Rattle.standby_cli.specs.declared.reply.Reply.TheVariants as reply
-use Rattle.standby_model.specs.Bodies as model
-use Rattle.standby_model.specs.Scan as scan
-use Rattle.standby_model.specs.Log as log
+use Rattle.standby_cli.specs.declared.reply.Scan.{Scan}
 
-abbrev pub inserter_meaning : Inserter → model.Inserter
-inserter_meaning by.Always = model.Always
-inserter_meaning (by.By xid) = model.By xid.0
+-- whether a snapshot sees a tuple, beside these statuses
+abbrev pub seen_by : SnapshotData → (ℕ → Status) → List ℕ → Result Bool Unknown
+seen_by snapshot statuses tuple = visible_of tuple snapshot no_parents statuses no_multixacts
 
-abbrev pub tuple_meaning : Tuple → model.Version
-tuple_meaning t = record {
-  block = t.place.block;
-  line = t.place.line;
-  inserter = inserter_meaning t.inserter;
-  row = record { id = t.id; note = t.note.now };
-}
+-- the rows of a block of a table in a pool
+abbrev pub page_in : List Column → SnapshotData → (ℕ → Status) → Blocks → ℕ → ℕ → BlockRows
+page_in columns snapshot statuses blocks table block = block_rows columns (seen_by snapshot statuses) (seen (blocks table block))
 
-abbrev pub body_meaning : Body → model.Body
-body_meaning said.Running = model.Running
-body_meaning (said.Checkpoint redo) = model.Checkpoint redo.0
-body_meaning (said.BackupEnd start) = model.BackupEnd start.0
-body_meaning (said.Insert tuple init) = model.Insert (tuple_meaning tuple) init
-body_meaning (said.Commit xid) = model.Commit xid.0
-body_meaning said.Passed = model.Passed
-
-abbrev pub stop_meaning : Stop → log.Stop
-stop_meaning stop.Ended = log.Ended
-stop_meaning stop.Compressed = log.Compressed
-stop_meaning stop.TooLong = log.TooLong
-stop_meaning (stop.NotYet start) = log.NotYet start.0
-
-abbrev pub refusal_meaning : Refusal → scan.Refusal
-refusal_meaning refusal.Compressed = scan.IsCompressed
-refusal_meaning refusal.TooLong = scan.IsTooLong
-refusal_meaning refusal.NotYet = scan.IsNotYet
-
-abbrev pub version_meaning : Version → model.Version
-version_meaning v = record {
-  block = v.place.block;
-  line = v.place.line;
-  inserter = inserter_meaning v.inserter;
-  row = record { id = v.id; note = v.note.items };
-}
+-- what a scan that was opened gives
+abbrev pub scan_meaning : Scan → scan.Reply
+scan_meaning s =
+    scan.Scanned s.at.0 s.table s.blocks
+    (scan.pages_from (page_in (table_with s.table).columns (in_numbers s.snapshot) (status_of s.state.log) (content s.pool) s.table) 0 s.blocks)
 
 abbrev pub reply_meaning : Reply → scan.Reply
 reply_meaning reply.BadWords = scan.BadWords
-reply_meaning (reply.LogRefused at what) = scan.LogRefused at.0 (refusal_meaning what)
+reply_meaning (reply.LogRefused at what) = scan.LogRefused at.0 what
 reply_meaning reply.NoTable = scan.NoTable
-reply_meaning (reply.Scanned at blocks rows) = scan.Scanned at.0 blocks (map version_meaning rows.items)
+reply_meaning (reply.NotAdmitted status) = scan.NotAdmitted status.min.0 status.at.0 status.awaited status.state
+reply_meaning (reply.Scan s) = scan_meaning s

@@ -2,9 +2,11 @@
 #![tactic(auto)]
 
 mod answer;
-mod body;
 mod replay;
 mod reply;
+mod scan;
+mod tables;
+mod text;
 mod top;
 mod write;
 

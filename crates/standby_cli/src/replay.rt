@@ -1,187 +1,65 @@
-ghost use Rattle.std.specs.Prelude.{◌≡◌, ℕ, Bool, [], ◌∷◌, List, IfOk, OnOk, map};
-ghost use Rattle.standby_model.specs.Bodies as model;
-ghost use Rattle.standby_model.specs.Bodies.{Body as Said};
-ghost use Rattle.standby_model.specs.Log.{AllFit, fits};
-ghost use Rattle.standby_model.specs.Rows.{IsRows};
-ghost use Rattle.standby_cli.specs.Meaning.{body_meaning, tuple_meaning, version_meaning};
-ghost use Rattle.standby_cli.specs.State.{Holds, stage_after, counts_in, may_insert_in};
+ghost use Rattle.std.specs.Prelude.{◌≡◌, IfOk, IfErr};
+ghost use Rattle.outside.specs.Faults.{Rose};
+ghost use Rattle.wal_archive.specs.ArchiveLog.{archived_bytes};
+ghost use Rattle.standby_core.specs.View.{standby};
+ghost use Rattle.standby_model.specs.Archived.{segment_size};
+ghost use Rattle.standby_model.specs.Log.{start};
+ghost use Rattle.standby_cli.specs.Replays.{HasTables, IsReplayed};
 
-use crate::body::{Body, Inserter, Tuple};
-use pg_types::{Place, Xid};
-use std::alloc::{AllocError, Global};
-use std::collections::HashSet;
+use crate::tables::{DATABASE, known_files};
+use outside::Archive;
+use page_store::Pool;
+use pg_types::{Fail, Lsn, NoMemory, Xid};
+use standby_core::{Node, NodeFault, Origin, Refusal, Replayed};
+use std::alloc::Global;
+use wal_reader::EndWhy;
 
-/// Where the log begins, in segment 2 of timeline 1.
-pub const LOG_START: u64 = 0x200_0028;
+/// Where the log begins: the redo position of the base backup, behind the long page header of segment 2.
+const ORIGIN: Origin = Origin {
+    system: 7,
+    segsize: 16 * 1024 * 1024,
+    redo: Lsn(0x200_0028),
+    next: Xid(700),
+};
 
-/// A version of a row of the table `t`.
-#[derive(Debug, Drop)]
-pub struct Version {
-    pub place: Place,
-    pub inserter: Inserter,
-    pub id: i32,
-    pub note: Vec<u8>,
-}
-
-/// Which record comes next: one of the first three, or a later one.
-#[derive(Clone, Copy, Debug, PartialEq, Eq)]
-pub enum Stage {
-    Running,
-    Checkpoint,
-    BackupEnd,
-    Later,
-}
-
-/// What the records replayed so far left of the table `t`.
+/// What replay of a log leaves.
 #[derive(Drop)]
-pub struct Replay {
-    /// In the order of the log.
-    pub versions: Vec<Version>,
-    /// The block and line of each version.
-    pub held: HashSet<(u32, u16)>,
-    /// The xids that a commit named.
-    pub committed: HashSet<u64>,
-    /// How many blocks the table has.
-    pub blocks: u64,
-    pub stage: Stage,
+pub enum Replay {
+    /// The log ends here, by this rule.
+    Ended { node: Node, why: EndWhy },
+    /// The record at this position is refused.
+    Refused { at: Lsn, what: Refusal },
 }
 
-impl Replay {
-    /// Before the first record.
-    pub fn new(alloc: Global) -> Replay
-        ensures { Holds result [] }
-    {
-        Replay {
-            versions: Vec::new(alloc),
-            held: HashSet::new(alloc),
-            committed: HashSet::new(alloc),
-            blocks: 0,
-            stage: Stage::Running,
-        }
-    }
-
-    /// The record may follow those that were replayed.
-    pub fn fits(&self, body: &Body<'_>) -> bool
-        ensures { (log : List Said) → Holds self.now log → result ≡ fits log (body_meaning body.now) }
-    {
-        match (self.stage, *body) {
-            (Stage::Running, Body::Running) => true,
-            (Stage::Checkpoint, Body::Checkpoint { redo }) => redo.0 == LOG_START,
-            (Stage::BackupEnd, Body::BackupEnd { start }) => start.0 == LOG_START,
-            (Stage::Later, Body::Insert { tuple, init }) => self.may_insert(tuple.place, init),
-            (Stage::Later, Body::Commit { .. }) => true,
-            (Stage::Later, Body::Passed) => true,
-            _ => false,
-        }
-    }
-
-    /// The place is free, and its block is there or is the next one, made by its record.
-    fn may_insert(&self, place: Place, init: bool) -> bool
-        ensures { result ≡ may_insert_in self.now place init }
-    {
-        let block = u64::from(place.block);
-        !self.held.contains(&(place.block, place.line))
-            && (block < self.blocks || block == self.blocks && init)
-    }
-
-    /// Replays a record that fits. After an error nothing is known of the versions.
-    pub fn apply(&mut self, alloc: Global, body: Body<'_>) -> Result<(), AllocError>
-        ensures { OnOk result
-            ((log : List Said) → Holds self.old log → Holds self.new (body_meaning body.entry ∷ log)) }
-    {
-        match body {
-            Body::Running => self.pass(),
-            Body::Checkpoint { .. } => self.pass(),
-            Body::BackupEnd { .. } => self.pass(),
-            Body::Passed => self.pass(),
-            Body::Insert { tuple, .. } => return self.insert(alloc, tuple),
-            Body::Commit { xid } => return self.commit(xid),
-        }
-        Ok(())
-    }
-
-    /// A record that changes no row.
-    fn pass(&mut self)
-        ensures running { (log : List Said) → Holds self.old log → Holds self.new (model.Running ∷ log) }
-        ensures checkpoint { (log : List Said) (redo : ℕ) → Holds self.old log → Holds self.new (model.Checkpoint redo ∷ log) }
-        ensures passed { (log : List Said) → Holds self.old log → Holds self.new (model.Passed ∷ log) }
-        ensures backup_end { (log : List Said) (start : ℕ) → Holds self.old log → Holds self.new (model.BackupEnd start ∷ log) }
-    {
-        self.stage = self.stage.next();
-    }
-
-    fn commit(&mut self, xid: Xid) -> Result<(), AllocError>
-        ensures { OnOk result
-            ((log : List Said) → Holds self.old log → Holds self.new (model.Commit xid.0 ∷ log)) }
-    {
-        self.committed.insert(xid.0)?;
-        self.stage = self.stage.next();
-        Ok(())
-    }
-
-    fn insert(&mut self, alloc: Global, tuple: Tuple<'_>) -> Result<(), AllocError>
-        ensures { OnOk result
-            ((log : List Said) (init : Bool) → Holds self.old log
-            → Holds self.new (model.Insert (tuple_meaning tuple.entry) init ∷ log)) }
-    {
-        let version = kept_version(alloc, tuple)?;
-        self.held.insert((tuple.place.block, tuple.place.line))?;
-        self.versions.push(version)?;
-        self.blocks = self.blocks.max(u64::from(tuple.place.block) + 1);
-        self.stage = self.stage.next();
-        Ok(())
-    }
-
-    /// The rows of the table: the versions whose inserter committed, in order of place.
-    pub fn into_rows(self) -> Result<Vec<Version>, AllocError>
-        ensures { IfOk result (λ rows. (log : List Said)
-            → AllFit log → Holds self log → IsRows log (map version_meaning rows.items)) }
-    {
-        let Replay {
-            versions,
-            held: _,
-            committed,
-            blocks: _,
-            stage: _,
-        } = self;
-        let mut rows = versions;
-        rows.retain(|version| counts(&committed, version.inserter));
-        rows.sort_by_key(|version| version.place)?;
-        Ok(rows)
-    }
-}
-
-impl Stage {
-    fn next(self) -> Stage
-        ensures { (log : List Said) (body : Said) → self ≡ stage_after log → result ≡ stage_after (body ∷ log) }
-    {
-        match self {
-            Stage::Running => Stage::Checkpoint,
-            Stage::Checkpoint => Stage::BackupEnd,
-            Stage::BackupEnd | Stage::Later => Stage::Later,
-        }
-    }
-}
-
-/// The tuple, with a note of its own.
-fn kept_version(alloc: Global, tuple: Tuple<'_>) -> Result<Version, AllocError>
-    ensures { IfOk result (λ version. version_meaning version ≡ tuple_meaning tuple.entry) }
+/// A node at the log's begin, whose tables have no blocks.
+fn start(alloc: Global) -> Result<Node, NoMemory>
+    ensures { IfOk result (λ node. standby node ≡ start) }
 {
-    let note = tuple.note.to_vec(alloc)?;
-    Ok(Version {
-        place: tuple.place,
-        inserter: tuple.inserter,
-        id: tuple.id,
-        note,
-    })
+    let known = known_files(alloc)?;
+    let pool = Pool::plain(alloc, 2)?;
+    Node::at_origin(alloc, DATABASE, known.as_slice(), &ORIGIN, pool)
 }
 
-/// The inserter committed: a commit named it, or it is one of the two that count as committed always.
-fn counts(committed: &HashSet<u64>, inserter: Inserter) -> bool
-    ensures { result ≡ counts_in committed.now inserter }
+/// Replays the archive's log to its end, or to the first record that is refused.
+///
+/// # Errors
+/// `Failed` only where the archive's faults rose, `Memory` for want of memory.
+pub fn replay_log<A: Archive>(alloc: Global, archive: &mut A) -> Result<Replay, Fail>
+    ensures replayed { IfOk result (IsReplayed (archived_bytes (A.files archive.old) segment_size)) }
+    ensures tables { IfOk result HasTables }
+    ensures failed { result ≡ Err Fail.Failed → Rose (A.fault_count archive.old) (A.fault_count archive.new) }
 {
-    match inserter {
-        Inserter::Always => true,
-        Inserter::By(xid) => xid.0 == 1 || xid.0 == 2 || committed.contains(&xid.0),
+    let mut node = match start(alloc) {
+        Err(_) => return Err(Fail::Memory),
+        Ok(node) => node,
+    };
+    'records: loop {
+        match node.replay_one(archive) {
+            Err(NodeFault::Archive) => return Err(Fail::Failed),
+            Err(NodeFault::Memory) => return Err(Fail::Memory),
+            Ok(Replayed::Applied { .. }) => {}
+            Ok(Replayed::AtEnd { why, .. }) => return Ok(Replay::Ended { node, why }),
+            Ok(Replayed::Refused { lsn, what }) => return Ok(Replay::Refused { at: lsn, what }),
+        }
     }
 }

@@ -1,20 +1,11 @@
-ghost use Rattle.std.specs.Prelude.{◌≡◌};
-ghost use Rattle.standby_model.specs.Scan.{status_of};
-ghost use Rattle.standby_cli.specs.Meaning.{reply_meaning};
+ghost use Rattle.std.specs.Prelude.{◌≡◌, ◌<◌};
+ghost use Rattle.page_store.specs.Content.{table_count};
 
-use crate::replay::Version;
+use page_store::Pool;
 use pg_types::Lsn;
-
-/// Why a record is refused.
-#[derive(Clone, Copy, Debug, PartialEq, Eq)]
-pub enum Refusal {
-    /// It has a compressed page image.
-    Compressed,
-    /// It is longer than 64 MiB.
-    TooLong,
-    /// It is of no kind that is read so far, or may not follow the records before it.
-    NotYet,
-}
+use standby_core::{NodeStatus, Refusal};
+use standby_snapshot::Snapshot;
+use xact_redo::XactState;
 
 /// What the program answers.
 #[derive(Drop)]
@@ -22,30 +13,23 @@ pub enum Reply {
     /// The words are not `scan` and a table.
     BadWords,
     /// The record at this position is refused.
-    LogRefused {
-        at: Lsn,
-        what: Refusal,
-    },
+    LogRefused { at: Lsn, what: Refusal },
     /// The table is not described.
     NoTable,
-    /// A scan at a position, over so many blocks, with these rows in order of place.
-    Scanned {
-        at: Lsn,
-        blocks: u64,
-        rows: Vec<Version>,
-    },
+    /// The standby, which stands so, does not admit scans.
+    NotAdmitted(NodeStatus),
+    /// A scan was opened.
+    Scan(Scan),
 }
 
-impl Reply {
-    /// The exit status.
-    pub fn status(&self) -> u8
-        ensures { result ≡ status_of (reply_meaning self.now) }
-    {
-        match self {
-            Reply::BadWords => 2,
-            Reply::LogRefused { .. } => 5,
-            Reply::NoTable => 1,
-            Reply::Scanned { .. } => 0,
-        }
-    }
+/// A scan that was opened: its position, its table, how many blocks that has, and what its rows are read from.
+#[derive(Drop)]
+pub struct Scan {
+    pub at: Lsn,
+    pub table: u16,
+    pub blocks: u32,
+    pub pool: Pool,
+    pub state: XactState,
+    pub snapshot: Snapshot,
+    ghost described: { table < table_count pool },
 }

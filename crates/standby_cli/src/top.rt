@@ -1,14 +1,15 @@
 ghost use Rattle.std.specs.Prelude.{◌≡◌, ◌≤◌, ◌⊎◌, ℕ, List, IfSome, IfOk, map, string_bytes, codes};
 ghost use Rattle.outside.specs.Faults.{Rose};
 ghost use Rattle.outside.specs.Sink.{Appends, AppendsPrefix};
+ghost use Rattle.legal_scan.specs.Answer.{WhereLegal};
 ghost use Rattle.standby_model.specs.Scan.{Reply as Said, Answers, status_of, text_of, line};
 ghost use Rattle.standby_cli.specs.Meaning.{reply_meaning};
 ghost use Rattle.standby_cli.specs.Outcome.{IsReplied, IsFault, AppendsUnless, CutsOff};
-ghost use Rattle.standby_cli.specs.Shown.{IsShown};
 
 use crate::answer::answer;
 use crate::reply::Reply;
 use crate::write::write_reply;
+use legal_scan::legal_scan;
 use outside::{Archive, Sink};
 use pg_types::Fail;
 use std::alloc::Global;
@@ -16,8 +17,9 @@ use std::alloc::Global;
 /// The program: answers its words over the archive, writes the answer to `out`, and gives the exit
 /// status.
 ///
-/// 0: a scan was written. 1: the table is not described. 2: the words are not `scan` and a table. 5: a
-/// record of the log is refused, or the log ends before its third record. 7: the archive failed. 9: the sink failed. 12: memory ran out.
+/// 0: a scan was written to its end. 1: the table is not described, scans are not admitted, or a row is
+/// refused. 2: the words are not `scan` and a table. 5: a record of the log is refused, or a block is
+/// damaged. 7: the archive failed. 9: the sink failed. 12: memory ran out.
 pub fn standby_main<A: Archive, O: Sink>(
     alloc: Global,
     words: &[String],
@@ -30,6 +32,12 @@ pub fn standby_main<A: Archive, O: Sink>(
     ensures replied { IsReplied result → IfSome (A.files archive.old) (λ files. (reply : Said)
         × (Answers (map string_bytes words.now) files reply) × (result ≡ status_of reply)
         × (Appends (O.written out.old) (O.written out.new) (text_of reply))) }
+
+    // Over a log that a primary could write scans are admitted exactly where the base backup has ended and the running
+    // transactions are known, and what is written are the rows that were committed at the log's end, in order of place.
+    ensures rows { IsReplied result → IfSome (A.files archive.old) (λ files.
+        WhereLegal (map string_bytes words.now) files (λ reply. (result ≡ status_of reply)
+        × (Appends (O.written out.old) (O.written out.new) (text_of reply)))) }
 
     // A fault has its cause, and of the answer's text a prefix is written, and then the fault's line.
     ensures archive_failed { result ≡ 7 → Rose (A.fault_count archive.old) (A.fault_count archive.new) }
@@ -45,27 +53,27 @@ pub fn standby_main<A: Archive, O: Sink>(
         → CutsOff (Rose (O.fault_count out.old) (O.fault_count out.new) ⊎ Rose (O.short_count out.old) (O.short_count out.new))
         (O.written out.old) (O.written out.new) (text_of reply) (line (codes "fault memory"))) }
 {
+    legal_scan();
     match answer(alloc, words, archive) {
-        Ok(reply) => finish(alloc, &reply, out),
+        Ok(reply) => finish(alloc, reply, out),
         Err(Fail::Failed) => write_fault(7, b"fault archive\n", out),
         Err(Fail::Memory) => write_fault(12, b"fault memory\n", out),
     }
 }
 
 /// Writes an answer, and gives its status.
-fn finish<O: Sink>(alloc: Global, reply: &Reply, out: &mut O) -> u8
-    requires { IsShown (reply_meaning reply.now) }
+fn finish<O: Sink>(alloc: Global, reply: Reply, out: &mut O) -> u8
     ensures replied { IsReplied result
-        → (result ≡ status_of (reply_meaning reply.now)) × (Appends (O.written out.old) (O.written out.new) (text_of (reply_meaning reply.now))) }
+        → (result ≡ status_of (reply_meaning reply)) × (Appends (O.written out.old) (O.written out.new) (text_of (reply_meaning reply))) }
     ensures statuses { IsReplied result ⊎ ((result ≡ 9) ⊎ (result ≡ 12)) }
     ensures sink_failed { result ≡ 9 → Rose (O.fault_count out.old) (O.fault_count out.new) }
-    ensures sink_text { result ≡ 9 → AppendsPrefix (O.written out.old) (O.written out.new) (text_of (reply_meaning reply.now)) }
+    ensures sink_text { result ≡ 9 → AppendsPrefix (O.written out.old) (O.written out.new) (text_of (reply_meaning reply)) }
     ensures memory_line { result ≡ 12
         → CutsOff (Rose (O.fault_count out.old) (O.fault_count out.new) ⊎ Rose (O.short_count out.old) (O.short_count out.new))
-        (O.written out.old) (O.written out.new) (text_of (reply_meaning reply.now)) (line (codes "fault memory")) }
+        (O.written out.old) (O.written out.new) (text_of (reply_meaning reply)) (line (codes "fault memory")) }
 {
     match write_reply(alloc, reply, out) {
-        Ok(()) => reply.status(),
+        Ok(status) => status,
         Err(Fail::Failed) => 9,
         Err(Fail::Memory) => write_fault(12, b"fault memory\n", out),
     }

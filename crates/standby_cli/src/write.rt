@@ -1,232 +1,184 @@
-ghost use Rattle.std.specs.Prelude.{◌≡◌, ◌≤◌, ◌==◌, ◌++◌, OnOk, IfOk, map, codes, if◌then◌else◌};
-ghost use Rattle.std.specs.List.{flat_map, prefix_len, range_with_len};
+ghost use Rattle.std.specs.Prelude.{◌≡◌, ◌≤◌, ◌<◌, ◌++◌, ℕ, List, IfOk, codes};
+ghost use Rattle.commit_log.specs.Log.{status_of as transaction_status};
+ghost use Rattle.page_store.specs.Content.{content, table_count};
 ghost use Rattle.pg_types.specs.Names.{lsn_text};
-ghost use Rattle.standby_model.specs.Scan.{LogRefused, refusal_text, escaped_byte, line, line_of, row_line, text_of, block_text, blocks_text, is_in_block};
-ghost use Rattle.standby_model.specs.Rows.{IsInPlaceOrder};
-ghost use Rattle.standby_cli.specs.Meaning.{refusal_meaning, reply_meaning, version_meaning};
-ghost use Rattle.standby_cli.specs.Shown.{IsShown};
+ghost use Rattle.standby_snapshot.specs.Snapshot.{in_numbers};
+ghost use Rattle.standby_model.specs.Scan.{LogRefused, NotAdmitted, is_whole, line, page_text, pages_from, pages_text, scan_text, status_after, status_at, status_of, text_of};
+ghost use Rattle.standby_model.specs.Tables.{table_with};
+ghost use Rattle.standby_cli.specs.Meaning.{page_in, reply_meaning, scan_meaning};
 ghost use Rattle.standby_cli.specs.Outcome.{WritesSome};
 ghost use Rattle.outside.specs.Faults.{HasCause};
-ghost use Rattle.outside.specs.Sink.{Writes};
+ghost use Rattle.seq_scan.specs.Meaning.{end_of, meaning};
 
-use crate::replay::Version;
-use crate::reply::{Refusal, Reply};
+use crate::reply::{Reply, Scan};
+use crate::tables::columns_of;
+use crate::text::{head_text, not_admitted_text, page_text, refused_text};
+use heap_tuple::Column;
 use outside::Sink;
-use pg_types::{Fail, Lsn, NoMemory};
+use page_store::Pool;
+use pg_types::{Fail, Lsn, NoMemory, Tag};
+use seq_scan::{BlockEnd, BlockRows, read_block};
+use standby_snapshot::Snapshot;
 use std::alloc::Global;
+use xact_redo::XactState;
 
-/// Writes an answer's text. For want of memory the text may be cut off after any of its lines' pieces.
+/// Writes an answer's text, and gives its exit status. For want of memory the text may be cut off after any of its pieces.
 #[tactic(auto, unfolding(standby_model::specs::Scan::text_of))]
-pub fn write_reply<O: Sink>(alloc: Global, reply: &Reply, out: &mut O) -> Result<(), Fail>
-    requires { IsShown (reply_meaning reply.now) }
-    ensures told { WritesSome (O.written out.old) (O.written out.new) (text_of (reply_meaning reply.now)) result }
+pub fn write_reply<O: Sink>(alloc: Global, reply: Reply, out: &mut O) -> Result<u8, Fail>
+    ensures told { WritesSome (O.written out.old) (O.written out.new) (text_of (reply_meaning reply)) result }
+    ensures status { IfOk result (λ status. status ≡ status_of (reply_meaning reply)) }
     ensures cause { HasCause (O.fault_count out.old) (O.fault_count out.new) result }
     ensures shortages { O.short_count out.old ≤ O.short_count out.new }
 {
     match reply {
-        Reply::BadWords => out.write(b"fault words\n"),
-        Reply::LogRefused { at, what } => write_refused(alloc, *at, *what, out),
-        Reply::NoTable => out.write(b"no table\n"),
-        Reply::Scanned { at, blocks, rows } => write_scanned(
-            alloc,
-            *at,
-            *blocks,
-            rows.as_slice(),
-            out,
-        ),
+        Reply::BadWords => write_line(b"fault words\n", 2, out),
+        Reply::LogRefused { at, what } => write_text(refused_text(alloc, at, what), 5, out),
+        Reply::NoTable => write_line(b"no table\n", 1, out),
+        Reply::NotAdmitted(status) => write_text(not_admitted_text(alloc, &status), 1, out),
+        Reply::Scan(scan) => write_scan(alloc, scan, out),
     }
 }
 
-fn write_refused<O: Sink>(alloc: Global, at: Lsn, what: Refusal, out: &mut O) -> Result<(), Fail>
-    ensures told { WritesSome (O.written out.old) (O.written out.new) (text_of (LogRefused at.0 (refusal_meaning what))) result }
+/// Writes a line, and gives this status.
+fn write_line<O: Sink>(line: &[u8], status: u8, out: &mut O) -> Result<u8, Fail>
+    ensures told { WritesSome (O.written out.old) (O.written out.new) line.now result }
+    ensures status { IfOk result (λ x. x ≡ status) }
     ensures cause { HasCause (O.fault_count out.old) (O.fault_count out.new) result }
     ensures shortages { O.short_count out.old ≤ O.short_count out.new }
 {
-    match refused_text(alloc, at, what) {
-        Err(_) => Err(Fail::Memory),
-        Ok(text) => out.write(text.as_slice()),
-    }
-}
-
-#[tactic(auto, unfolding(standby_model::specs::Scan::text_of))]
-fn refused_text(alloc: Global, at: Lsn, what: Refusal) -> Result<Vec<u8>, NoMemory>
-    ensures { IfOk result (λ text. text.items ≡ text_of (LogRefused at.0 (refusal_meaning what))) }
-{
-    let mut text = Vec::new(alloc);
-    text.extend_from_slice(b"fault log ")?;
-    at.print(&mut text)?;
-    text.extend_from_slice(refusal_text(what).as_bytes())?;
-    text.push(b'\n')?;
-    Ok(text)
-}
-
-fn refusal_text(what: Refusal) -> &'static str
-    ensures { result.now ≡ refusal_text (refusal_meaning what) }
-{
-    match what {
-        Refusal::Compressed => " compressed",
-        Refusal::TooLong => " too long",
-        Refusal::NotYet => " not yet",
-    }
-}
-
-fn head_text(alloc: Global, at: Lsn) -> Result<Vec<u8>, NoMemory>
-    ensures { IfOk result (λ text. text.items ≡ line (codes "scan 1 at " ++ lsn_text at.0)) }
-{
-    let mut text = Vec::new(alloc);
-    text.extend_from_slice(b"scan 1 at ")?;
-    at.print(&mut text)?;
-    text.extend_from_slice(b"\n")?;
-    Ok(text)
-}
-
-/// The scan's line, then block for block the lines of its rows and whether a further block is there.
-fn write_scanned<O: Sink>(
-    alloc: Global,
-    at: Lsn,
-    blocks: u64,
-    rows: &[Version],
-    out: &mut O,
-) -> Result<(), Fail>
-    requires { IsInPlaceOrder (map version_meaning rows.now) }
-    ensures told { WritesSome (O.written out.old) (O.written out.new)
-        (line (codes "scan 1 at " ++ lsn_text at.0) ++ blocks_text blocks (map version_meaning rows.now)) result }
-    ensures cause { HasCause (O.fault_count out.old) (O.fault_count out.new) result }
-    ensures shortages { O.short_count out.old ≤ O.short_count out.new }
-{
-    match write_head(alloc, at, out) {
+    match out.write(line) {
         Err(fail) => Err(fail),
-        Ok(()) => write_all_blocks(alloc, blocks, rows, out),
+        Ok(()) => Ok(status),
     }
 }
 
-fn write_head<O: Sink>(alloc: Global, at: Lsn, out: &mut O) -> Result<(), Fail>
-    ensures told { WritesSome (O.written out.old) (O.written out.new) (line (codes "scan 1 at " ++ lsn_text at.0)) result }
+/// Writes a text, if there was memory for it, and gives this status.
+fn write_text<O: Sink>(text: Result<Vec<u8>, NoMemory>, status: u8, out: &mut O) -> Result<u8, Fail>
+    ensures told { (whole : List ℕ) → IfOk text (λ t. t.items ≡ whole) → WritesSome (O.written out.old) (O.written out.new) whole result }
+    ensures status { IfOk result (λ x. x ≡ status) }
     ensures cause { HasCause (O.fault_count out.old) (O.fault_count out.new) result }
     ensures shortages { O.short_count out.old ≤ O.short_count out.new }
 {
-    match head_text(alloc, at) {
+    match text {
         Err(_) => Err(Fail::Memory),
-        Ok(text) => out.write(text.as_slice()),
+        Ok(text) => write_line(text.as_slice(), status, out),
     }
 }
 
-/// A table without blocks ends at once.
-fn write_all_blocks<O: Sink>(
-    alloc: Global,
-    blocks: u64,
-    rows: &[Version],
-    out: &mut O,
-) -> Result<(), Fail>
-    requires { IsInPlaceOrder (map version_meaning rows.now) }
-    ensures told { WritesSome (O.written out.old) (O.written out.new) (blocks_text blocks (map version_meaning rows.now)) result }
+/// Writes a scan's line, and then its rows block for block.
+fn write_scan<O: Sink>(alloc: Global, scan: Scan, out: &mut O) -> Result<u8, Fail>
+    ensures told { WritesSome (O.written out.old) (O.written out.new) (text_of (scan_meaning scan)) result }
+    ensures status { IfOk result (λ status. status ≡ status_of (scan_meaning scan)) }
     ensures cause { HasCause (O.fault_count out.old) (O.fault_count out.new) result }
     ensures shortages { O.short_count out.old ≤ O.short_count out.new }
 {
-    if blocks == 0 {
-        return out.write(b"end 1\n");
+    match write_text(head_text(alloc, scan.at), 0, out) {
+        Err(fail) => Err(fail),
+        Ok(_) => write_pages(alloc, scan, out),
     }
-    write_blocks(alloc, blocks, rows, out)
 }
 
-fn write_blocks<O: Sink>(
-    alloc: Global,
-    blocks: u64,
-    rows: &[Version],
-    out: &mut O,
-) -> Result<(), Fail>
-    requires { IsInPlaceOrder (map version_meaning rows.now) }
-    ensures told { WritesSome (O.written out.old) (O.written out.new)
-        (flat_map (block_text blocks (map version_meaning rows.now)) (range_with_len 0 blocks)) result }
+/// Writes the rows of a scan. A table without blocks ends at once.
+fn write_pages<O: Sink>(alloc: Global, scan: Scan, out: &mut O) -> Result<u8, Fail>
+    ensures told { let pages = pages_from (page_in (table_with scan.table).columns (in_numbers scan.snapshot) (transaction_status scan.state.log) (content scan.pool) scan.table) 0 scan.blocks in
+        WritesSome (O.written out.old) (O.written out.new) (scan_text scan.table scan.blocks pages) result }
+    ensures status { IfOk result (λ status. status ≡ status_of (scan_meaning scan)) }
     ensures cause { HasCause (O.fault_count out.old) (O.fault_count out.new) result }
     ensures shortages { O.short_count out.old ≤ O.short_count out.new }
 {
-    let mut rest = rows;
-    for block in 0..blocks {
-        let (here, behind) = rest.split_at(front_len(rest, block));
-        match write_block(alloc, here, block + 1 < blocks, out) {
-            Err(fail) => return Err(fail),
-            Ok(()) => rest = behind,
+    if scan.blocks == 0 {
+        return write_line(b"end 1\n", 0, out);
+    }
+    match columns_of(alloc, scan.table) {
+        Err(_) => Err(Fail::Memory),
+        Ok(columns) => {
+            let Scan {
+                table,
+                blocks,
+                mut pool,
+                state,
+                snapshot,
+                ..
+            } = scan;
+            write_blocks(
+                alloc,
+                table,
+                blocks,
+                &mut pool,
+                columns.as_slice(),
+                &snapshot,
+                &state,
+                out,
+            )
         }
     }
-    Ok(())
 }
 
-/// How many of the rows, which are in place order and begin in this block or a later one, are of the
-/// block.
-fn front_len(rows: &[Version], block: u64) -> usize
-    ensures { result ≡ prefix_len (λ row. row.place.block == block) rows.now }
-{
-    rows.iter()
-        .take_while(|row| u64::from(row.place.block) == block)
-        .count()
-}
-
-fn write_block<O: Sink>(
+/// Writes the lines of each block, up to the first that does not end with its last line.
+fn write_blocks<O: Sink>(
     alloc: Global,
-    rows: &[Version],
-    more: bool,
+    table: u16,
+    blocks: u32,
+    pool: &mut Pool,
+    columns: &[Column],
+    snapshot: &Snapshot,
+    state: &XactState,
     out: &mut O,
-) -> Result<(), Fail>
-    ensures told { WritesSome (O.written out.old) (O.written out.new)
-        (flat_map line_of (map version_meaning rows.now) ++ line (if more then codes "more 1" else codes "end 1")) result }
+) -> Result<u8, Fail>
+    requires { table < table_count pool.old }
+    ensures told { let page = page_in columns.now (in_numbers snapshot.now) (transaction_status state.now.log) (content pool.old) table in
+        WritesSome (O.written out.old) (O.written out.new) (pages_text table blocks 0 (pages_from page 0 blocks)) result }
+    ensures status { let page = page_in columns.now (in_numbers snapshot.now) (transaction_status state.now.log) (content pool.old) table in
+        IfOk result (λ status. status ≡ status_after (pages_from page 0 blocks)) }
     ensures cause { HasCause (O.fault_count out.old) (O.fault_count out.new) result }
     ensures shortages { O.short_count out.old ≤ O.short_count out.new }
 {
-    match text_of_block(alloc, rows, more) {
-        Err(_) => Err(Fail::Memory),
-        Ok(text) => out.write(text.as_slice()),
+    for block in 0..blocks {
+        let page = match read_block(alloc, pool, Tag { table, block }, columns, snapshot, state) {
+            Err(_) => return Err(Fail::Memory),
+            Ok(page) => page,
+        };
+        match write_page(alloc, table, block, block + 1 < blocks, &page, out) {
+            Err(fail) => return Err(fail),
+            Ok(_) => {}
+        }
+        if !is_whole(page.end) {
+            return Ok(status_at(page.end));
+        }
     }
+    Ok(0)
 }
 
-/// The lines of a block's rows, then `more 1` or `end 1`.
-fn text_of_block(alloc: Global, rows: &[Version], more: bool) -> Result<Vec<u8>, NoMemory>
-    ensures { IfOk result (λ text. text.items ≡ flat_map line_of (map version_meaning rows.now)
-        ++ line (if more then codes "more 1" else codes "end 1")) }
+/// Writes the lines of a block.
+fn write_page<O: Sink>(
+    alloc: Global,
+    table: u16,
+    block: u32,
+    more: bool,
+    page: &BlockRows,
+    out: &mut O,
+) -> Result<u8, Fail>
+    ensures told { WritesSome (O.written out.old) (O.written out.new) (page_text table block more (meaning page.now)) result }
+    ensures cause { HasCause (O.fault_count out.old) (O.fault_count out.new) result }
+    ensures shortages { O.short_count out.old ≤ O.short_count out.new }
 {
-    let mut text = Vec::new(alloc);
-    for row in rows {
-        push_row(alloc, row, &mut text)?;
-    }
-    if more {
-        text.extend_from_slice(b"more 1\n")?;
-    } else {
-        text.extend_from_slice(b"end 1\n")?;
-    }
-    Ok(text)
+    write_text(page_text(alloc, table, block, more, page), 0, out)
 }
 
-/// Appends a row's line.
-#[tactic(auto, unfolding(standby_model::specs::Scan::row_line))]
-fn push_row(alloc: Global, row: &Version, text: &mut Vec<u8>) -> Result<(), NoMemory>
-    ensures { OnOk result (text.new.items ≡ text.old.items ++ line_of (version_meaning row.now)) }
+/// Whether a block's rows end with its last line.
+fn is_whole(end: BlockEnd) -> bool
+    ensures { result ≡ is_whole (end_of end) }
 {
-    let id = format!(in alloc; "row {}\t", row.id)?;
-    text.extend_from_slice(id.as_bytes())?;
-    push_escaped(row.note.as_slice(), text)?;
-    text.push(b'\n')?;
-    Ok(())
+    matches!(end, BlockEnd::Whole)
 }
 
-/// Appends a text value, with backslash, tab, newline and return escaped.
-fn push_escaped(note: &[u8], text: &mut Vec<u8>) -> Result<(), NoMemory>
-    ensures { OnOk result (text.new.items ≡ text.old.items ++ flat_map escaped_byte note.now) }
+/// The status of a scan whose last block ends so.
+fn status_at(end: BlockEnd) -> u8
+    ensures { result ≡ status_at (end_of end) }
 {
-    for byte in note {
-        push_escaped_byte(*byte, text)?;
+    match end {
+        BlockEnd::Whole => 0,
+        BlockEnd::Toasted { .. } | BlockEnd::Bad { .. } => 1,
+        BlockEnd::Unknown { .. } | BlockEnd::NoPage => 5,
     }
-    Ok(())
-}
-
-fn push_escaped_byte(byte: u8, text: &mut Vec<u8>) -> Result<(), NoMemory>
-    ensures { OnOk result (text.new.items ≡ text.old.items ++ escaped_byte byte) }
-{
-    match byte {
-        b'\\' => text.extend_from_slice(b"\\\\")?,
-        b'\t' => text.extend_from_slice(b"\\t")?,
-        b'\n' => text.extend_from_slice(b"\\n")?,
-        b'\r' => text.extend_from_slice(b"\\r")?,
-        other => text.push(other)?,
-    }
-    Ok(())
 }

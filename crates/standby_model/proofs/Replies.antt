@@ -1,70 +1,69 @@
--- The answer to given words over a given file is one.
-use Rattle.std.proofs.Common.{◌≡◌, ℕ, Bool, true, false, List, [], ◌∷◌, Option, Some, None, MatchBool, take, sym, subst, ◌∙◌}
-use Rattle.std.specs.Prelude.{codes, nat_eq}
-use Rattle.std.specs.Cmp.Lexicographic.{pointwise}
-use Rattle.standby_model.specs.Bodies.{Body}
-use Rattle.standby_model.specs.Archived.{archive_reads}
-use Rattle.standby_model.specs.Log.{Stop, Ended, Compressed, TooLong, NotYet, Reads}
-use Rattle.standby_model.specs.Scan.{Reply, NoTable, LogRefused, AnswersRows, AnswersTable, AnswersAtEnd, AnswersStop, AnswersLog, AnswersWords, table_of}
+-- The answer to given words over given files is one.
+use Rattle.std.proofs.Common.{◌≡◌, ℕ, ◌<◌, Bool, true, false, nat_lt, List, Option, Some, None, arith, refl, sym, subst, ap, ◌∙◌, inl, inr}
+use Rattle.std.proofs.lemmas.Bool.{cases_order, lt-ltb, le-ltb, false≢true}
+use Rattle.wal_bodies.specs.declared.types.Rec.{Rec}
+use Rattle.standby_core.specs.Standby.{Standby}
+use Rattle.standby_model.specs.Archived.{told_by}
+use Rattle.standby_model.specs.Log.{IsLog, Stop, Ended, Refused}
+use Rattle.standby_model.specs.Tables.{number_of}
+use Rattle.standby_model.specs.Scan.{Reply, Scanned, AnswersLog, AnswersOpening, AnswersRows, AnswersStop, AnswersTable, AnswersWords, is_admitted, is_there, page_of, pages_from, table_of}
 use Rattle.standby_model.specs.Laws.{OneAnswer}
 use Rattle.standby_model.proofs.Logs.{one_log_holds}
-use Rattle.standby_model.proofs.Places.{one_rows_holds}
 
--- a reply that is settled by a test, one at each of its answers
-one_by_test :
-    (test : Bool) (P Q : Reply → Type 0) (a b : Reply) → (P a → P b → a ≡ b) → (Q a → Q b → a ≡ b)
-    → MatchBool test (P a) (Q a) → MatchBool test (P b) (Q b) → a ≡ b
-one_by_test true P Q a b f g p q = f p q
-one_by_test false P Q a b f g p q = g p q
+-- one number is that of the blocks
+not_less :
+    (there : ℕ → Bool) (m n : ℕ) → ((block : ℕ) → there block ≡ nat_lt block m) → ((block : ℕ) → there block ≡ nat_lt block n)
+    → m < n → ⊥
+not_less there m n a b less =
+    false≢true (sym (le-ltb m m (omega arith)) ∙ sym (a m) ∙ b m ∙ lt-ltb m n less)
 
-one_of_rows : (log : List Body) (end : ℕ) (a b : Reply) → AnswersRows log end a → AnswersRows log end b → a ≡ b
-one_of_rows log end a b p q =
-    let same = one_rows_holds log p.rows q.rows p.is_rows q.is_rows in
-    let r = p.says in
-    let s = q.says in
-    cc
+pub one_count :
+    (there : ℕ → Bool) (m n : ℕ) → ((block : ℕ) → there block ≡ nat_lt block m) → ((block : ℕ) → there block ≡ nat_lt block n) → m ≡ n
+one_count there m n a b =
+    elim (cases_order m n) [
+      | inl e ↦ e
+      | inr (inl less) ↦ absurd (not_less there m n a b less)
+      | inr (inr more) ↦ absurd (not_less there n m b a more)
+    ]
 
-one_of_table :
-    (table : List ℕ) (log : List Body) (end : ℕ) (a b : Reply) → AnswersTable table log end a
-    → AnswersTable table log end b → a ≡ b
-one_of_table table log end a b p q =
-    one_by_test (pointwise nat_eq table (codes "t")) (AnswersRows log end) (λ r. r ≡ NoTable) a b (one_of_rows log end a b) (λ e f. e ∙ sym f) p q
+one_of_rows : (node : Standby) (table : ℕ) (a b : Reply) → AnswersRows node table a → AnswersRows node table b → a ≡ b
+one_of_rows node table a b p q =
+    let same = one_count (λ block. is_there (node.blocks table block)) p.blocks q.blocks p.count q.count in
+    p.says ∙ ap (λ (n : ℕ). Scanned node.at.0 table n (pages_from (page_of node table) 0 n)) same ∙ sym q.says
 
-one_at_end :
-    (table : List ℕ) (log : List Body) (end : ℕ) (a b : Reply) → AnswersAtEnd table log end a
-    → AnswersAtEnd table log end b → a ≡ b
-one_at_end table [] end a b p q = p ∙ sym q
-one_at_end table (x ∷ []) end a b p q = p ∙ sym q
-one_at_end table (x ∷ y ∷ []) end a b p q = p ∙ sym q
-one_at_end table (x ∷ y ∷ z ∷ older) end a b p q = one_of_table table (x ∷ y ∷ z ∷ older) end a b p q
+one_of_opening :
+    (node : Standby) (table : ℕ) (admitted : Bool) (a b : Reply) → AnswersOpening node table admitted a
+    → AnswersOpening node table admitted b → a ≡ b
+one_of_opening node table true a b p q = one_of_rows node table a b p q
+one_of_opening node table false a b p q = p ∙ sym q
+
+one_of_table : (node : Standby) (table : Option ℕ) (a b : Reply) → AnswersTable node table a → AnswersTable node table b → a ≡ b
+one_of_table node None a b p q = p ∙ sym q
+one_of_table node (Some table) a b p q = one_of_opening node table (is_admitted node) a b p q
 
 one_at_stop :
-    (table : List ℕ) (log : List Body) (end : ℕ) (stop : Stop) (a b : Reply) → AnswersStop table log end stop a
-    → AnswersStop table log end stop b → a ≡ b
-one_at_stop table log end Ended a b p q = one_at_end table log end a b p q
-one_at_stop table log end Compressed a b p q = p ∙ sym q
-one_at_stop table log end TooLong a b p q = p ∙ sym q
-one_at_stop table log end (NotYet start) a b p q = p ∙ sym q
+    (name : List ℕ) (node : Standby) (stop : Stop) (a b : Reply) → AnswersStop name node stop a → AnswersStop name node stop b
+    → a ≡ b
+one_at_stop name node (Ended why) a b p q = one_of_table node (number_of name) a b p q
+one_at_stop name node (Refused what) a b p q = p ∙ sym q
 
--- an answer at equal logs, ends and causes
 moved :
-    (table : List ℕ) (log other : List Body) (end at : ℕ) (stop why : Stop) (b : Reply)
-    → (other ≡ log) × (at ≡ end) × (why ≡ stop) → AnswersStop table other at why b → AnswersStop table log end stop b
-moved table log other end at stop why b (e, f, g) says =
-    subst (λ (l : List Body). AnswersStop table l end stop b) e
-    (subst (λ (n : ℕ). AnswersStop table other n stop b) f
-    (subst (λ (s : Stop). AnswersStop table other at s b) g says))
+    (name : List ℕ) (node there : Standby) (stop why : Stop) (b : Reply) → there ≡ node → why ≡ stop
+    → AnswersStop name there why b → AnswersStop name node stop b
+moved name node there stop why b e f says =
+    subst (λ (n : Standby). AnswersStop name n stop b) e (subst (λ (s : Stop). AnswersStop name there s b) f says)
 
-one_of_log : (table : List ℕ) (reads : Reads) (a b : Reply) → AnswersLog table reads a → AnswersLog table reads b → a ≡ b
-one_of_log table reads a b p q =
-    one_at_stop table p.log p.end p.stop a b p.says
-    (moved table p.log q.log p.end q.end p.stop q.stop b
-    (one_log_holds reads q.log p.log q.end p.end q.stop p.stop q.is_log p.is_log) q.says)
+one_of_log :
+    (name : List ℕ) (files : List ℕ → Option (List ℕ)) (a b : Reply) → AnswersLog name files a → AnswersLog name files b → a ≡ b
+one_of_log name files a b p q =
+    let same = one_log_holds (told_by files) q.log p.log q.node p.node q.stop p.stop q.is_log p.is_log in
+    one_at_stop name p.node p.stop a b p.says (moved name p.node q.node p.stop q.stop b same.1 same.2 q.says)
 
 one_of_words :
-    (table : Option (List ℕ)) (reads : Reads) (a b : Reply) → AnswersWords table reads a → AnswersWords table reads b → a ≡ b
-one_of_words None reads a b p q = p ∙ sym q
-one_of_words (Some table) reads a b p q = one_of_log table reads a b p q
+    (name : Option (List ℕ)) (files : List ℕ → Option (List ℕ)) (a b : Reply) → AnswersWords name files a
+    → AnswersWords name files b → a ≡ b
+one_of_words None files a b p q = p ∙ sym q
+one_of_words (Some name) files a b p q = one_of_log name files a b p q
 
 pub one_answer_holds : OneAnswer
-one_answer_holds words files a b p q = one_of_words (table_of words) (archive_reads files) a b p q
+one_answer_holds words files a b p q = one_of_words (table_of words) files a b p q

@@ -1,19 +1,16 @@
 -- What the definitions promise together.
 use Rattle.std.specs.Prelude.{◌≡◌, ℕ, List, Option}
-use Rattle.standby_model.specs.Bodies.{Body, Version}
-use Rattle.standby_model.specs.Log.{Stop, Reads, IsLog}
-use Rattle.standby_model.specs.Rows.{IsRows}
-use Rattle.standby_model.specs.Scan.{Reply, Answers}
+use Rattle.wal_reader.specs.Told.{Told}
+use Rattle.wal_bodies.specs.declared.types.Rec.{Rec}
+use Rattle.standby_core.specs.Standby.{Standby}
+use Rattle.standby_model.specs.Log.{IsLog, Stop}
+use Rattle.standby_model.specs.Scan.{Answers, Reply}
 
--- one log stands for a reader, with one end and one cause
+-- one log is told, with one standby that it leads to and one cause why it goes no further
 abbrev pub OneLog : Type 0
 OneLog =
-    (reads : Reads) (log other : List Body) (end at : ℕ) (stop why : Stop)
-    → IsLog reads log end stop → IsLog reads other at why → (log ≡ other) × (end ≡ at) × (stop ≡ why)
-
--- one list of rows is that of a log
-abbrev pub OneRows : Type 0
-OneRows = (log : List Body) (rows others : List Version) → IsRows log rows → IsRows log others → rows ≡ others
+    (told : Told) (log other : List Rec) (node there : Standby) (stop why : Stop)
+    → IsLog told log node stop → IsLog told other there why → (log ≡ other) × (node ≡ there) × (stop ≡ why)
 
 -- one answer exists for given words and files
 abbrev pub OneAnswer : Type 0

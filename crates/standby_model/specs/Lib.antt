@@ -1,6 +1,5 @@
 pub mod Archived
-pub mod Bodies
 pub mod Laws
 pub mod Log
-pub mod Rows
 pub mod Scan
+pub mod Tables

@@ -1,27 +1,36 @@
 -- The command `scan TABLE`: its words, its answer, and the text and exit status of each answer.
-use Rattle.std.specs.Prelude.{◌≡◌, ℕ, ◌+◌, Bool, List, [], ◌∷◌, ◌++◌, filter, nat_eq, nat_lt, ◌==◌, Option, Some, None, MatchBool, if◌then◌else◌, codes}
+use Rattle.std.specs.Prelude.{◌≡◌, ℕ, zero, suc, ◌+◌, Bool, true, false, not, ◌&&◌, List, [], ◌∷◌, ◌++◌, nat_eq, nat_lt, nat_le, ◌==◌, Option, Some, None, is_some, if◌then◌else◌, codes, slice_get, unwrap_or}
 use Rattle.std.specs.Cmp.Lexicographic.{pointwise}
-use Rattle.std.specs.List.{flat_map, range_with_len}
-use Rattle.std.specs.Fmt.{signed_decimal}
+use Rattle.std.specs.List.{flat_map}
+use Rattle.std.specs.Fmt.{decimal, signed_decimal}
 use Rattle.pg_types.specs.Names.{lsn_text}
-use Rattle.standby_model.specs.Bodies.{Body, Version, Row}
-use Rattle.standby_model.specs.Archived.{archive_reads}
-use Rattle.standby_model.specs.Log.{Stop, Ended, Compressed, TooLong, NotYet, Reads, IsLog, blocks_of}
-use Rattle.standby_model.specs.Rows.{IsRows}
-
--- why a record is refused
-pub data Refusal : Type 0 where
-  IsCompressed : Refusal
-  IsTooLong : Refusal
-  IsNotYet : Refusal
+use Rattle.known_assigned.specs.declared.state.State.{State}
+use Rattle.known_assigned.specs.declared.state.State.TheVariants.{Initialized, Pending, Ready}
+use Rattle.heap_tuple.specs.declared.cell.Cell.{Cell}
+use Rattle.heap_tuple.specs.declared.cell.Cell.TheVariants.{Null, Bool as BoolCell, Int as IntCell, Bytes as BytesCell}
+use Rattle.heap_redo.specs.Redone.{Seen, absent, bad_block, seen_page}
+use Rattle.wal_bodies.specs.declared.types.Rec.{Rec}
+use Rattle.wal_bodies.specs.declared.types.What.{What}
+use Rattle.wal_bodies.specs.declared.types.What.TheVariants.{Prepared, InPlace, Minimal, PageWrites, Database, Epoch, NotYet}
+use Rattle.seq_scan.specs.BlockRows.{BlockRows, BlockEnd, Whole, ToastedAt, BadAt, UnknownAt, NoPage as IsNoPage, block_rows}
+use Rattle.xact_redo.specs.Sees.{sees}
+use Rattle.standby_core.specs.declared.types.Refusal.{Refusal}
+use Rattle.standby_core.specs.declared.types.Refusal.TheVariants.{Compressed, TooLong, Length, Unsupported, NoPage, NoTuple, PageFull, BadPage}
+use Rattle.standby_core.specs.Standby.{Standby}
+use Rattle.standby_model.specs.Archived.{told_by}
+use Rattle.standby_model.specs.Log.{IsLog, Stop, Ended, Refused}
+use Rattle.standby_model.specs.Tables.{Table, number_of, table_with}
 
 -- what the command answers: its words are not `scan` and a table; the record at this position is refused; the table is not
--- described; or a scan at this position, over so many blocks, with these rows
+-- described; the standby does not admit scans, with its minimum and position, whether the end of the base backup
+-- is awaited, and what it knows of running transactions; or a scan at this position of the table with this number
+-- and so many blocks, with the rows of its blocks up to the first that is refused
 pub data Reply : Type 0 where
   BadWords : Reply
   LogRefused : (at : ℕ) → Refusal → Reply
   NoTable : Reply
-  Scanned : (at : ℕ) → (blocks : ℕ) → (rows : List Version) → Reply
+  NotAdmitted : (min at : ℕ) → (awaited : Bool) → State → Reply
+  Scanned : (at table blocks : ℕ) → List BlockRows → Reply
 
 -- the table that the words name
 abbrev pub table_of : List (List ℕ) → Option (List ℕ)
@@ -30,52 +39,94 @@ table_of (command ∷ []) = None
 table_of (command ∷ table ∷ []) = if pointwise nat_eq command (codes "scan") then Some table else None
 table_of (command ∷ table ∷ more ∷ words) = None
 
--- the scan's position is the log's end, and its rows are those of the log
-pub record AnswersRows (log : List Body) (end : ℕ) (reply : Reply) : Type 0 where
-  pub rows : List Version
-  pub is_rows : IsRows log rows
-  pub says : reply ≡ Scanned end (blocks_of log) rows
+abbrev pub is_ready : State → Bool
+is_ready Initialized = false
+is_ready (Pending until) = false
+is_ready Ready = true
 
--- the one table that is described is t
-abbrev pub AnswersTable : List ℕ → List Body → ℕ → Reply → Type 0
-AnswersTable table log end reply =
-    MatchBool (pointwise nat_eq table (codes "t")) (AnswersRows log end reply) (reply ≡ NoTable)
+-- scans are admitted where the blocks are consistent, which they are from the minimum on once the base backup has
+-- ended, and the running transactions are known (hot_standby, xlogrecovery.c, CheckRecoveryConsistency)
+abbrev pub is_admitted : Standby → Bool
+is_admitted node = nat_le node.min.0 node.at.0 && not (is_some node.awaited) && is_ready node.transactions.known.mode
 
--- a log that ends has its first three records
-abbrev pub AnswersAtEnd : List ℕ → List Body → ℕ → Reply → Type 0
-AnswersAtEnd table [] end reply = reply ≡ LogRefused end IsNotYet
-AnswersAtEnd table (a ∷ []) end reply = reply ≡ LogRefused end IsNotYet
-AnswersAtEnd table (a ∷ b ∷ []) end reply = reply ≡ LogRefused end IsNotYet
-AnswersAtEnd table (a ∷ b ∷ c ∷ older) end reply = AnswersTable table (a ∷ b ∷ c ∷ older) end reply
+abbrev pub is_there : Seen → Bool
+is_there absent = false
+is_there bad_block = true
+is_there (seen_page lsn items) = true
 
-abbrev pub AnswersStop : List ℕ → List Body → ℕ → Stop → Reply → Type 0
-AnswersStop table log end Ended reply = AnswersAtEnd table log end reply
-AnswersStop table log end Compressed reply = reply ≡ LogRefused end IsCompressed
-AnswersStop table log end TooLong reply = reply ≡ LogRefused end IsTooLong
-AnswersStop table log end (NotYet start) reply = reply ≡ LogRefused start IsNotYet
+abbrev pub is_whole : BlockEnd → Bool
+is_whole Whole = true
+is_whole (ToastedAt line column) = false
+is_whole (BadAt line column) = false
+is_whole (UnknownAt line id) = false
+is_whole IsNoPage = false
 
--- the answer over the log that the reader reads
-pub record AnswersLog (table : List ℕ) (reads : Reads) (reply : Reply) : Type 0 where
-  pub log : List Body
-  pub end : ℕ
+-- the rows of n blocks from this one on, up to the first that does not end with its last line
+unfoldable pub pages_from : (ℕ → BlockRows) → ℕ → ℕ → List BlockRows
+pages_from page block zero = []
+pages_from page block (suc n) =
+    page block ∷ (if is_whole (page block).end then pages_from page (block + 1) n else [])
+
+-- what a scan of a standby gives of a block
+abbrev pub page_of : Standby → ℕ → ℕ → BlockRows
+page_of node table block = block_rows (table_with table).columns (sees node.transactions) (node.blocks table block)
+
+-- a scan of the table with this number: over each block that it has
+pub record AnswersRows (node : Standby) (table : ℕ) (reply : Reply) : Type 0 where
+  pub blocks : ℕ
+  pub count : (block : ℕ) → is_there (node.blocks table block) ≡ nat_lt block blocks
+  pub says : reply ≡ Scanned node.at.0 table blocks (pages_from (page_of node table) 0 blocks)
+
+-- a scan that is admitted, or why it is not
+abbrev pub AnswersOpening : Standby → ℕ → Bool → Reply → Type 0
+AnswersOpening node table true reply = AnswersRows node table reply
+AnswersOpening node table false reply =
+    reply ≡ NotAdmitted node.min.0 node.at.0 (is_some node.awaited) node.transactions.known.mode
+
+abbrev pub AnswersTable : Standby → Option ℕ → Reply → Type 0
+AnswersTable node None reply = reply ≡ NoTable
+AnswersTable node (Some table) reply = AnswersOpening node table (is_admitted node) reply
+
+abbrev pub AnswersStop : List ℕ → Standby → Stop → Reply → Type 0
+AnswersStop name node (Ended why) reply = AnswersTable node (number_of name) reply
+AnswersStop name node (Refused what) reply = reply ≡ LogRefused node.at.0 what
+
+-- the answer over the log that the archive's files tell
+pub record AnswersLog (name : List ℕ) (files : List ℕ → Option (List ℕ)) (reply : Reply) : Type 0 where
+  pub log : List Rec
+  pub node : Standby
   pub stop : Stop
-  pub is_log : IsLog reads log end stop
-  pub says : AnswersStop table log end stop reply
+  pub is_log : IsLog (told_by files) log node stop
+  pub says : AnswersStop name node stop reply
 
-abbrev pub AnswersWords : Option (List ℕ) → Reads → Reply → Type 0
-AnswersWords None reads reply = reply ≡ BadWords
-AnswersWords (Some table) reads reply = AnswersLog table reads reply
+abbrev pub AnswersWords : Option (List ℕ) → (List ℕ → Option (List ℕ)) → Reply → Type 0
+AnswersWords None files reply = reply ≡ BadWords
+AnswersWords (Some name) files reply = AnswersLog name files reply
 
 -- what the program answers to its words over the archive's files
 abbrev pub Answers : List (List ℕ) → (List ℕ → Option (List ℕ)) → Reply → Type 0
-Answers words files reply = AnswersWords (table_of words) (archive_reads files) reply
+Answers words files reply = AnswersWords (table_of words) files reply
+
+-- the exit status of a scan by the end of its last block: a row that is refused is no failure of the log, damage is
+abbrev pub status_at : BlockEnd → ℕ
+status_at Whole = 0
+status_at (ToastedAt line column) = 1
+status_at (BadAt line column) = 1
+status_at (UnknownAt line id) = 5
+status_at IsNoPage = 5
+
+abbrev pub status_after : List BlockRows → ℕ
+status_after [] = 0
+status_after (page ∷ []) = status_at page.end
+status_after (page ∷ next ∷ pages) = status_after (next ∷ pages)
 
 -- the exit status of an answer
 abbrev pub status_of : Reply → ℕ
 status_of BadWords = 2
 status_of (LogRefused at what) = 5
 status_of NoTable = 1
-status_of (Scanned at blocks rows) = 0
+status_of (NotAdmitted min at awaited state) = 1
+status_of (Scanned at table blocks pages) = status_after pages
 
 -- a line
 abbrev pub line : List ℕ → List ℕ
@@ -90,34 +141,93 @@ escaped_byte b =
     else if b == 13 then 92 ∷ 114 ∷ []
     else b ∷ []
 
--- `row`, then the row's values with a tab between them
-unfoldable pub row_line : Row → List ℕ
-row_line r = line (codes "row " ++ signed_decimal r.id ++ 9 ∷ [] ++ flat_map escaped_byte r.note)
+-- a value: `\N` where it is null (as COPY prints it), `t` or `f`, a decimal number, or the bytes of a text
+unfoldable pub cell_text : Cell → List ℕ
+cell_text Null = 92 ∷ 78 ∷ []
+cell_text (BoolCell value) = if value then codes "t" else codes "f"
+cell_text (IntCell value) = signed_decimal value
+cell_text (BytesCell bytes) = flat_map escaped_byte bytes
 
-abbrev pub line_of : Version → List ℕ
-line_of v = row_line v.row
+-- a further value of a row, behind a tab
+abbrev pub tabbed : Cell → List ℕ
+tabbed cell = 9 ∷ cell_text cell
 
-abbrev pub is_in_block : ℕ → Version → Bool
-is_in_block b v = v.block == b
+-- a row's values, with a tab between them
+abbrev pub values_text : List Cell → List ℕ
+values_text [] = []
+values_text (first ∷ rest) = cell_text first ++ flat_map tabbed rest
 
--- the lines of a block: its rows, then whether a further block is there
-abbrev pub block_text : ℕ → List Version → ℕ → List ℕ
-block_text blocks rows b =
-    flat_map line_of (filter (is_in_block b) rows) ++ line (if nat_lt (b + 1) blocks then codes "more 1" else codes "end 1")
+-- `row`, then the row's values
+unfoldable pub row_line : List Cell → List ℕ
+row_line row = line (codes "row " ++ values_text row)
 
--- the lines of each block in turn; a table without blocks ends at once
-abbrev pub blocks_text : ℕ → List Version → List ℕ
-blocks_text blocks rows =
-    if blocks == 0 then line (codes "end 1") else flat_map (block_text blocks rows) (range_with_len 0 blocks)
+-- a block and a line
+abbrev pub place_text : ℕ → ℕ → List ℕ
+place_text block line_ = decimal block ++ codes "," ++ decimal line_
+
+-- the name of a table's column
+abbrev pub column_name : ℕ → ℕ → List ℕ
+column_name table column = unwrap_or (slice_get (table_with table).column_names column) []
+
+-- the last line of a block's rows
+unfoldable pub end_line : ℕ → ℕ → Bool → BlockEnd → List ℕ
+end_line table block more Whole = line (if more then codes "more 1" else codes "end 1")
+end_line table block more (ToastedAt line_ column) =
+    line (codes "toasted 1 " ++ place_text block line_ ++ codes " " ++ column_name table column)
+end_line table block more (BadAt line_ column) =
+    line (codes "bad row 1 " ++ place_text block line_ ++ codes " " ++ column_name table column)
+end_line table block more (UnknownAt line_ id) =
+    line (codes "damaged 1 " ++ place_text block line_ ++ codes " multi " ++ decimal id)
+end_line table block more IsNoPage = line (codes "damaged 1 " ++ place_text block 0 ++ codes " page")
+
+-- the lines of a block: its rows, and how they end
+abbrev pub page_text : ℕ → ℕ → Bool → BlockRows → List ℕ
+page_text table block more page = flat_map row_line page.rows ++ end_line table block more page.end
+
+-- the lines of each block in turn, from this one on, of so many
+unfoldable pub pages_text : ℕ → ℕ → ℕ → List BlockRows → List ℕ
+pages_text table blocks block [] = []
+pages_text table blocks block (page ∷ pages) =
+    page_text table block (nat_lt (block + 1) blocks) page ++ pages_text table blocks (block + 1) pages
+
+-- a table without blocks ends at once
+abbrev pub scan_text : ℕ → ℕ → List BlockRows → List ℕ
+scan_text table blocks pages = if blocks == 0 then line (codes "end 1") else pages_text table blocks 0 pages
+
+abbrev pub what_text : What → List ℕ
+what_text Prepared = codes "unsupported prepared"
+what_text InPlace = codes "unsupported inplace"
+what_text Minimal = codes "unsupported minimal"
+what_text PageWrites = codes "unsupported page writes"
+what_text Database = codes "unsupported database"
+what_text Epoch = codes "unsupported epoch"
+what_text NotYet = codes "not yet"
 
 abbrev pub refusal_text : Refusal → List ℕ
-refusal_text IsCompressed = codes " compressed"
-refusal_text IsTooLong = codes " too long"
-refusal_text IsNotYet = codes " not yet"
+refusal_text Compressed = codes "compressed"
+refusal_text TooLong = codes "too long"
+refusal_text Length = codes "length"
+refusal_text (Unsupported what) = what_text what
+refusal_text (NoPage block) = codes "no page " ++ decimal block
+refusal_text (NoTuple place) = codes "no tuple " ++ place_text place.block place.line
+refusal_text (PageFull place) = codes "page full " ++ place_text place.block place.line
+refusal_text (BadPage block) = codes "bad page " ++ decimal block
+
+abbrev pub state_text : State → List ℕ
+state_text Initialized = codes "initialized"
+state_text (Pending until) = codes "pending"
+state_text Ready = codes "ready"
+
+abbrev pub backup_text : Bool → List ℕ
+backup_text true = codes "awaited"
+backup_text false = codes "ended"
 
 -- the text of an answer
 unfoldable pub text_of : Reply → List ℕ
 text_of BadWords = line (codes "fault words")
-text_of (LogRefused at what) = line (codes "fault log " ++ lsn_text at ++ refusal_text what)
+text_of (LogRefused at what) = line (codes "fault log " ++ lsn_text at ++ codes " " ++ refusal_text what)
 text_of NoTable = line (codes "no table")
-text_of (Scanned at blocks rows) = line (codes "scan 1 at " ++ lsn_text at) ++ blocks_text blocks rows
+text_of (NotAdmitted min at awaited state) =
+    line (codes "not admitted min=" ++ lsn_text min ++ codes " at=" ++ lsn_text at
+    ++ codes " backup=" ++ backup_text awaited ++ codes " state=" ++ state_text state)
+text_of (Scanned at table blocks pages) = line (codes "scan 1 at " ++ lsn_text at) ++ scan_text table blocks pages

@@ -1,19 +1,14 @@
 //! The definitions that the program's contracts cite, and their laws.
 #![tactic(auto)]
 
-ghost use Rattle.standby_model.specs.Laws.{OneLog, OneRows, OneAnswer};
+ghost use Rattle.standby_model.specs.Laws.{OneAnswer, OneLog};
 
-/// One log stands for a reader, with one end and one cause.
+/// One log is told, with one standby that it leads to and one cause why it goes no further.
 pub fn one_log()
     ensures { OneLog }
 {}
 
-/// One list of rows is that of a log.
-pub fn one_rows()
-    ensures { OneRows }
-{}
-
-/// One answer exists for given words and file.
+/// One answer exists for given words and files.
 pub fn one_answer()
     ensures { OneAnswer }
 {}

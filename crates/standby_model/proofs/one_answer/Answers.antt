@@ -1,4 +1,3 @@
--- One answer exists for given words and file.
 use Rattle.standby_model.proofs.Replies.{one_answer_holds}
 use Rattle.standby_model.proofs.one_answer.Goals as goal
 

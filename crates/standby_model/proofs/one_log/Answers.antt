@@ -1,4 +1,3 @@
--- One log stands for a reader.
 use Rattle.standby_model.proofs.Logs.{one_log_holds}
 use Rattle.standby_model.proofs.one_log.Goals as goal
 

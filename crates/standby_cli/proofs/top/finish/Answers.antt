@@ -1,4 +1,6 @@
-use Rattle.std.proofs.Common.{◌⊎◌, map}
+use Rattle.std.proofs.Common.{◌≡◌, ◌⊎◌, ◌∙◌, ℕ, inl, map, subst, sym, lit<}
+use Rattle.standby_cli.specs.Outcome.{IsReplied}
+use Rattle.standby_cli.proofs.Pages.{no_fault, replied}
 use Rattle.std.specs.Prelude.{codes}
 use Rattle.outside.specs.Faults.{Rose}
 use Rattle.standby_cli.specs.Meaning.{reply_meaning}
@@ -14,8 +16,24 @@ returns-in-Err-Memory-clause-memory_line g c = λ twelve.
     cut_off (Rose (faults c.write_reply.new.out) (faults c.write_fault.new.out) ⊎ Rose (shorts c.write_reply.new.out) (shorts c.write_fault.new.out))
     (Rose (faults c.args.out.now) (faults c.write_fault.new.out) ⊎ Rose (shorts c.args.out.now) (shorts c.write_fault.new.out))
     (g.O.Sink.written c.args.out.now) (g.O.Sink.written c.write_reply.new.out) (g.O.Sink.written c.write_fault.new.out)
-    (text_of (reply_meaning c.args.reply.now)) (line (codes "fault memory"))
+    (text_of (reply_meaning c.args.reply)) (line (codes "fault memory"))
     (either_rose (faults c.args.out.now) (faults c.write_reply.new.out) (faults c.write_fault.new.out)
     (shorts c.args.out.now) (shorts c.write_reply.new.out) (shorts c.write_fault.new.out)
     c.in-Err-Memory.ensures.cause.grows c.in-Err-Memory.ensures.shortages)
     told c.write_fault.ensures.written
+
+pub returns-in-Ok-clause-statuses : goal.returns-in-Ok-clause-statuses
+returns-in-Ok-clause-statuses g c =
+    inl (subst (λ (n : ℕ). IsReplied n) (sym c.in-Ok.ensures.status) (replied (reply_meaning c.args.reply)))
+
+pub returns-in-Ok-clause-sink_failed : goal.returns-in-Ok-clause-sink_failed
+returns-in-Ok-clause-sink_failed g c = λ nine.
+    absurd (no_fault _ 9 (replied (reply_meaning c.args.reply)) (sym c.in-Ok.ensures.status ∙ nine) (lit< tt))
+
+pub returns-in-Ok-clause-sink_text : goal.returns-in-Ok-clause-sink_text
+returns-in-Ok-clause-sink_text g c = λ nine.
+    absurd (no_fault _ 9 (replied (reply_meaning c.args.reply)) (sym c.in-Ok.ensures.status ∙ nine) (lit< tt))
+
+pub returns-in-Ok-clause-memory_line : goal.returns-in-Ok-clause-memory_line
+returns-in-Ok-clause-memory_line g c = λ twelve.
+    absurd (no_fault _ 12 (replied (reply_meaning c.args.reply)) (sym c.in-Ok.ensures.status ∙ twelve) (lit< tt))

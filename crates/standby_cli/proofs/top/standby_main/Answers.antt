@@ -1,9 +1,11 @@
-use Rattle.std.proofs.Common.{◌⊎◌, map}
+use Rattle.std.proofs.Common.{◌≡◌, ◌⊎◌, map}
 use Rattle.std.specs.Prelude.{codes, string_bytes}
 use Rattle.outside.specs.Faults.{Rose}
 use Rattle.standby_cli.specs.Meaning.{reply_meaning}
 use Rattle.standby_cli.proofs.Faults.{cut_off_answer, cut_off_at_once}
-use Rattle.standby_model.specs.Scan.{line}
+use Rattle.outside.specs.Sink.{Appends}
+use Rattle.standby_cli.proofs.Legal.{legal_replies}
+use Rattle.standby_model.specs.Scan.{line, status_of, text_of}
 use Rattle.standby_cli.proofs.top.standby_main.Goals as goal
 
 pub returns-in-Ok-clause-memory_line : goal.returns-in-Ok-clause-memory_line
@@ -21,3 +23,9 @@ returns-in-Err-Memory-clause-memory_line g c = λ twelve.
     (g.O.Sink.written c.args.out.now) (g.O.Sink.written c.write_fault-in-Err-Memory.new.out) (map string_bytes c.args.words.now)
     (g.A.Archive.files c.args.archive.now) (line (codes "fault memory"))
     c.write_fault-in-Err-Memory.ensures.written
+
+pub returns-in-Ok-clause-rows : goal.returns-in-Ok-clause-rows
+returns-in-Ok-clause-rows g c = λ replied.
+    legal_replies c.legal_scan.ensures (map string_bytes c.args.words.now) (g.A.Archive.files c.args.archive.now)
+    (λ reply. (c.finish.result ≡ status_of reply) × Appends (g.O.Sink.written c.args.out.now) (g.O.Sink.written c.finish.new.out) (text_of reply))
+    (reply_meaning c.in-Ok.reply) c.in-Ok.ensures.told (c.finish.ensures.replied replied)

@@ -1,60 +1,88 @@
--- A block of the walk.
-use Rattle.std.proofs.Common.{◌≡◌, ◌≤◌, ℕ, ◌+◌, ◌-◌, List, ◌++◌, map, take, drop, arith, ◌∙◌, ap, sym, subst}
-use Rattle.std.specs.List.{All, flat_map}
-use Rattle.std.specs.Prelude.{nat_lt, codes, if◌then◌else◌}
+use Rattle.std.proofs.Common.{◌≡◌, ◌≤◌, ℕ, Bool, true, false, nat_lt, List, ◌+◌, arith, refl, sym, ap, subst, ◌∙◌}
+use Rattle.commit_log.specs.Log.{status_of}
+use Rattle.page_store.specs.Content.{Blocks, content}
 use Rattle.outside.specs.Sink.{Appends, AppendsPrefix}
-use Rattle.standby_model.specs.Scan.{line, line_of}
-use Rattle.standby_model.specs.Rows.{IsInPlaceOrder}
-use Rattle.standby_model.proofs.Texts.{blocks_text_from}
-use Rattle.standby_cli.specs.declared.replay.Version.{Version}
-use Rattle.standby_cli.specs.Meaning.{version_meaning}
-use Rattle.std.proofs.lemmas.List.Sums.{prefix_len-le-length}
-use Rattle.std.specs.Prelude.{◌==◌}
-use Rattle.standby_cli.proofs.Appending.{appends_both, appends_prefix, prefix_of_longer}
-use Rattle.standby_cli.proofs.Walk.{front, text_here, left_after, text_after}
+use Rattle.seq_scan.specs.BlockRows.{BlockRows}
+use Rattle.standby_snapshot.specs.Snapshot.{in_numbers}
+use Rattle.standby_model.specs.Scan.{is_whole, page_text, status_at}
+use Rattle.standby_cli.specs.Meaning.{page_in}
+use Rattle.standby_cli.proofs.Appending.{nothing_appended, nothing_written}
+use Rattle.standby_cli.proofs.Pages.{at_first, wrote_all, wrote_front, wrote_last, wrote_some, wrote_whole}
 use Rattle.standby_cli.proofs.write.write_blocks.Goals as goal
 
-pub split_at-requires : goal.split_at-requires
-split_at-requires g c = omega (arith, c.front_len.ensures, prefix_len-le-length (λ row. row.place.block == c.loop-block.block) c.loop-block.rest.now)
+pub loop-block-init : goal.loop-block-init
+loop-block-init g c =
+    record {
+      content_is = refl;
+      tables = refl;
+      counted = omega arith;
+      shorted = omega arith;
+      written = at_first (g.O.Sink.written c.args.out.now)
+          (page_in c.args.columns.now (in_numbers c.args.snapshot.now) (status_of c.args.state.now.log) (content c.args.pool.now) c.args.table)
+          c.args.table c.args.blocks (nothing_appended (g.O.Sink.written c.args.out.now));
+    }
 
 pub returns-in-Err-clause-told : goal.returns-in-Err-clause-told
 returns-in-Err-clause-told g c =
-    let rest = c.loop-block.rest.now in
+    wrote_front (g.O.Sink.written c.args.out.now) (g.O.Sink.written c.loop-block.out)
+    (page_in c.args.columns.now (in_numbers c.args.snapshot.now) (status_of c.args.state.now.log) (content c.args.pool.now) c.args.table)
+    c.args.table c.args.blocks c.loop-block.block c.loop-block.invariant.written (nothing_written (g.O.Sink.written c.loop-block.out))
+
+pub returns-in-Err-write_page-clause-told : goal.returns-in-Err-write_page-clause-told
+returns-in-Err-write_page-clause-told g c =
+    let page = page_in c.args.columns.now (in_numbers c.args.snapshot.now) (status_of c.args.state.now.log) (content c.args.pool.now) c.args.table in
     let b = c.loop-block.block in
-    let inv = c.loop-block.invariant in
-    let here : c.split_at.result.0.now ≡ take (front b rest) rest =
-    c.split_at.ensures.front ∙ ap (λ (n : ℕ). take n rest) c.front_len.ensures in
-    let more = nat_lt (b + 1) c.args.blocks in
-    let whole = blocks_text_from c.args.blocks (map version_meaning c.args.rows.now) 0 c.args.blocks in
-    let later = blocks_text_from c.args.blocks (map version_meaning (drop (front b rest) rest)) (b + 1) (c.args.blocks - (b + 1)) in
-    let some : AppendsPrefix (g.O.Sink.written c.loop-block.out) (g.O.Sink.written c.write_block.new.out) (text_here b rest more) =
-    subst (λ (xs : List Version). AppendsPrefix (g.O.Sink.written c.loop-block.out) (g.O.Sink.written c.write_block.new.out) (flat_map line_of (map version_meaning xs) ++ line (if more then codes "more 1" else codes "end 1"))) here c.in-Err.ensures.told in
-    let joined = appends_prefix (g.O.Sink.written c.args.out.now) (g.O.Sink.written c.loop-block.out) (g.O.Sink.written c.write_block.new.out) inv.written.0 (text_here b rest more) inv.written.1 some in
-    subst (λ (t : List ℕ). AppendsPrefix (g.O.Sink.written c.args.out.now) (g.O.Sink.written c.write_block.new.out) t)
-    (text_after c.args.blocks rest b inv.written.0 whole c.loop-block-test.true inv.in_order inv.left inv.written.2)
-    (prefix_of_longer (g.O.Sink.written c.args.out.now) (g.O.Sink.written c.write_block.new.out) (inv.written.0 ++ text_here b rest more) later joined)
+    let is = c.in-Ok.ensures.rows ∙ ap (λ (blocks : Blocks). page_in c.args.columns.now (in_numbers c.args.snapshot.now) (status_of c.args.state.now.log) blocks c.args.table b) c.loop-block.invariant.content_is in
+    wrote_some (g.O.Sink.written c.args.out.now) (g.O.Sink.written c.loop-block.out) (g.O.Sink.written c.write_page.new.out) page
+    c.args.table c.args.blocks b c.loop-block-test.true c.loop-block.invariant.written
+    (subst (λ (p : BlockRows). AppendsPrefix (g.O.Sink.written c.loop-block.out) (g.O.Sink.written c.write_page.new.out) (page_text c.args.table b (nat_lt (b + 1) c.args.blocks) p)) is c.in-Err-write_page.ensures.told)
+
+pub returns-then-not-is_whole-clause-told : goal.returns-then-not-is_whole-clause-told
+returns-then-not-is_whole-clause-told g c =
+    let page = page_in c.args.columns.now (in_numbers c.args.snapshot.now) (status_of c.args.state.now.log) (content c.args.pool.now) c.args.table in
+    let b = c.loop-block.block in
+    let is = c.in-Ok.ensures.rows ∙ ap (λ (blocks : Blocks). page_in c.args.columns.now (in_numbers c.args.snapshot.now) (status_of c.args.state.now.log) blocks c.args.table b) c.loop-block.invariant.content_is in
+    (wrote_last (g.O.Sink.written c.args.out.now) (g.O.Sink.written c.loop-block.out) (g.O.Sink.written c.write_page.new.out) page
+    c.args.table c.args.blocks b c.loop-block-test.true
+    (ap (λ (p : BlockRows). is_whole p.end) (sym is) ∙ sym c.is_whole.ensures ∙ c.if-not-is_whole.true) c.loop-block.invariant.written
+    (subst (λ (p : BlockRows). Appends (g.O.Sink.written c.loop-block.out) (g.O.Sink.written c.write_page.new.out) (page_text c.args.table b (nat_lt (b + 1) c.args.blocks) p)) is c.in-Ok-write_page.ensures.told)).0
+
+pub returns-then-not-is_whole-clause-status : goal.returns-then-not-is_whole-clause-status
+returns-then-not-is_whole-clause-status g c =
+    let page = page_in c.args.columns.now (in_numbers c.args.snapshot.now) (status_of c.args.state.now.log) (content c.args.pool.now) c.args.table in
+    let b = c.loop-block.block in
+    let is = c.in-Ok.ensures.rows ∙ ap (λ (blocks : Blocks). page_in c.args.columns.now (in_numbers c.args.snapshot.now) (status_of c.args.state.now.log) blocks c.args.table b) c.loop-block.invariant.content_is in
+    c.status_at.ensures ∙ ap (λ (p : BlockRows). status_at p.end) is
+    ∙ (wrote_last (g.O.Sink.written c.args.out.now) (g.O.Sink.written c.loop-block.out) (g.O.Sink.written c.write_page.new.out) page
+    c.args.table c.args.blocks b c.loop-block-test.true
+    (ap (λ (p : BlockRows). is_whole p.end) (sym is) ∙ sym c.is_whole.ensures ∙ c.if-not-is_whole.true) c.loop-block.invariant.written
+    (subst (λ (p : BlockRows). Appends (g.O.Sink.written c.loop-block.out) (g.O.Sink.written c.write_page.new.out) (page_text c.args.table b (nat_lt (b + 1) c.args.blocks) p)) is c.in-Ok-write_page.ensures.told)).1
 
 pub loop-block-preserved : goal.loop-block-preserved
 loop-block-preserved g c =
-    let rest = c.loop-block.rest.now in
+    let page = page_in c.args.columns.now (in_numbers c.args.snapshot.now) (status_of c.args.state.now.log) (content c.args.pool.now) c.args.table in
     let b = c.loop-block.block in
     let inv = c.loop-block.invariant in
-    let here : c.split_at.result.0.now ≡ take (front b rest) rest =
-    c.split_at.ensures.front ∙ ap (λ (n : ℕ). take n rest) c.front_len.ensures in
-    let back : c.split_at.result.1.now ≡ drop (front b rest) rest =
-    c.split_at.ensures.back ∙ ap (λ (n : ℕ). drop n rest) c.front_len.ensures in
-    let after = left_after b rest inv.in_order inv.left in
-    let more = nat_lt (b + 1) c.args.blocks in
+    let is = c.in-Ok.ensures.rows ∙ ap (λ (blocks : Blocks). page_in c.args.columns.now (in_numbers c.args.snapshot.now) (status_of c.args.state.now.log) blocks c.args.table b) inv.content_is in
     record {
-      in_order = subst (λ (xs : List Version). IsInPlaceOrder (map version_meaning xs)) (sym back) after.0;
-      left = subst (λ (xs : List Version). All (λ v. b + 1 ≤ v.block) (map version_meaning xs)) (sym back) after.1;
-      counted = omega (arith, c.in-Ok.ensures.cause.grows);
-      shorted = omega (arith, c.in-Ok.ensures.shortages);
-      written = (
-        inv.written.0 ++ text_here b rest more,
-        appends_both (g.O.Sink.written c.args.out.now) (g.O.Sink.written c.loop-block.out) (g.O.Sink.written c.write_block.new.out) inv.written.0 (text_here b rest more) inv.written.1
-            (subst (λ (xs : List Version). Appends (g.O.Sink.written c.loop-block.out) (g.O.Sink.written c.write_block.new.out) (flat_map line_of (map version_meaning xs) ++ line (if more then codes "more 1" else codes "end 1"))) here c.in-Ok.ensures.told),
-        subst (λ (xs : List Version). (inv.written.0 ++ text_here b rest more) ++ blocks_text_from c.args.blocks (map version_meaning xs) (b + 1) (c.args.blocks - (b + 1)) ≡ blocks_text_from c.args.blocks (map version_meaning c.args.rows.now) 0 c.args.blocks) (sym back)
-            (text_after c.args.blocks rest b inv.written.0 (blocks_text_from c.args.blocks (map version_meaning c.args.rows.now) 0 c.args.blocks) c.loop-block-test.true inv.in_order inv.left inv.written.2),
-      );
+      content_is = c.in-Ok.ensures.content ∙ inv.content_is;
+      tables = c.in-Ok.ensures.tables ∙ inv.tables;
+      counted = omega (arith, c.in-Ok-write_page.ensures.cause.grows);
+      shorted = omega (arith, c.in-Ok-write_page.ensures.shortages);
+      written = wrote_whole (g.O.Sink.written c.args.out.now) (g.O.Sink.written c.loop-block.out) (g.O.Sink.written c.write_page.new.out) page
+          c.args.table c.args.blocks b c.loop-block-test.true
+          (ap (λ (p : BlockRows). is_whole p.end) (sym is) ∙ sym c.is_whole.ensures ∙ c.if-not-is_whole.false) inv.written
+          (subst (λ (p : BlockRows). Appends (g.O.Sink.written c.loop-block.out) (g.O.Sink.written c.write_page.new.out) (page_text c.args.table b (nat_lt (b + 1) c.args.blocks) p)) is c.in-Ok-write_page.ensures.told);
     }
+
+pub returns-clause-told : goal.returns-clause-told
+returns-clause-told g c =
+    (wrote_all (g.O.Sink.written c.args.out.now) (g.O.Sink.written c.loop-block.out)
+    (page_in c.args.columns.now (in_numbers c.args.snapshot.now) (status_of c.args.state.now.log) (content c.args.pool.now) c.args.table)
+    c.args.table c.args.blocks c.loop-block.block (omega (arith, c.loop-block-test.false)) c.loop-block.invariant.written).0
+
+pub returns-clause-status : goal.returns-clause-status
+returns-clause-status g c =
+    (wrote_all (g.O.Sink.written c.args.out.now) (g.O.Sink.written c.loop-block.out)
+    (page_in c.args.columns.now (in_numbers c.args.snapshot.now) (status_of c.args.state.now.log) (content c.args.pool.now) c.args.table)
+    c.args.table c.args.blocks c.loop-block.block (omega (arith, c.loop-block-test.false)) c.loop-block.invariant.written).1

@@ -1,0 +1,16 @@
+//! What the program answers over a log that a primary could write.
+#![tactic(auto)]
+
+ghost use Rattle.legal_scan.specs.Answer.{LegalScan};
+
+/// Over a legal log scans are admitted exactly where the base backup has ended and the running
+/// transactions are known, and then give the rows that were committed at the log's end, in order of place.
+pub fn legal_scan()
+    ensures { LegalScan }
+{
+    standby_model::one_log();
+    row_redo::blocks_show_versions();
+    row_visibility::state_along();
+    row_visibility::sees_rows();
+    row_pages::scan_gives_rows();
+}

@@ -1,0 +1,93 @@
+-- A scan is opened, or not admitted, as the standby stands.
+use Rattle.std.proofs.Common.{◌≡◌, ℕ, ◌<◌, Bool, true, false, not, ◌&&◌, nat_lt, List, Option, Some, None, arith, inl, inr, refl, sym, ap, subst, ◌∙◌}
+use Rattle.std.specs.Prelude.{◌↔◌, IsSome, if◌then◌else◌}
+use Rattle.std.proofs.lemmas.Bool.{and_parts, cases_order, le-ltb, lt-ltb}
+use Rattle.heap_page.specs.Item.{Item}
+use Rattle.heap_page.specs.Page.{is_page, items_of, lsn_of}
+use Rattle.pg_types.specs.declared.names.Lsn.{Lsn}
+use Rattle.pg_types.specs.declared.status.Status.{Status}
+use Rattle.page_store.specs.declared.pool.Pool.{Pool}
+use Rattle.page_store.specs.Content.{Blocks, content}
+use Rattle.commit_log.specs.Log.{status_of as statuses_in}
+use Rattle.heap_redo.specs.Redone.{View, bad_block, seen, seen_page, view_of}
+use Rattle.heap_tuple.specs.declared.cell.Column.{Column}
+use Rattle.known_assigned.specs.declared.state.State.{State}
+use Rattle.known_assigned.specs.declared.state.State.TheVariants.{Initialized, Pending, Ready}
+use Rattle.seq_scan.specs.BlockRows.{BlockRows, block_rows}
+use Rattle.standby_snapshot.specs.declared.Snapshot.{Snapshot}
+use Rattle.standby_snapshot.specs.Snapshot.{SnapshotData, in_numbers, take_of}
+use Rattle.xact_redo.specs.declared.state.XactState.{XactState}
+use Rattle.xact_redo.specs.State.{TransactionState, transactions}
+use Rattle.xact_redo.specs.Sees.{sees}
+use Rattle.standby_core.specs.declared.types.NodeStatus.{NodeStatus}
+use Rattle.standby_core.specs.Standby.{Standby}
+use Rattle.standby_core.specs.View.{status_of}
+use Rattle.standby_model.specs.Scan.{AnswersOpening, AnswersRows, NotAdmitted, Scanned, is_admitted, is_ready, is_there, page_of, pages_from}
+use Rattle.standby_model.specs.Tables.{table_with}
+use Rattle.standby_cli.specs.Meaning.{page_in}
+use Rattle.standby_cli.specs.Replays.{bare}
+
+pub not_admitted :
+    (node : Standby) (table : ℕ) (status : NodeStatus) (test : Bool) → status ≡ status_of node → test ≡ is_admitted node
+    → test ≡ false
+    → AnswersOpening (bare node) table (is_admitted (bare node)) (NotAdmitted status.min.0 status.at.0 status.awaited status.state)
+unfolding status_of
+not_admitted node table status test e f g =
+    subst (λ (b : Bool). AnswersOpening (bare node) table b (NotAdmitted status.min.0 status.at.0 status.awaited status.state)) (sym g ∙ f)
+    (ap (λ (s : NodeStatus). NotAdmitted s.min.0 s.at.0 s.awaited s.state) e)
+
+ready_when : (mode : State) → is_ready mode ≡ true → mode ≡ Ready
+ready_when Initialized e = cc
+ready_when (Pending until) e = cc
+ready_when Ready e = refl
+
+-- where scans are admitted the running transactions are known
+pub is_known : (node : Standby) (test : Bool) → test ≡ is_admitted node → test ≡ true → node.transactions.known.mode ≡ Ready
+is_known node test e f =
+    ready_when node.transactions.known.mode (and_parts _ _ (sym e ∙ f)).1
+
+-- the rows of a table's blocks, by the parts of a node
+same_pages :
+    (table : ℕ) (pool : Pool) (state : XactState) (snapshot : Snapshot) (view : View) (t : TransactionState)
+    → view_of (content pool) ≡ view → transactions state ≡ t → in_numbers snapshot ≡ take_of state.known.known
+    → page_in (table_with table).columns (in_numbers snapshot) (statuses_in state.log) (content pool) table
+    ≡ (λ block. block_rows (table_with table).columns (sees t) (view table block))
+unfolding transactions
+same_pages table pool state snapshot view t e f g =
+    ap (λ (s : SnapshotData). page_in (table_with table).columns s (statuses_in state.log) (content pool) table) g
+    ∙ ap (λ (x : TransactionState). λ (block : ℕ). block_rows (table_with table).columns (sees x) (view_of (content pool) table block)) f
+    ∙ ap (λ (v : View). λ (block : ℕ). block_rows (table_with table).columns (sees t) (v table block)) e
+
+-- a block is seen where the pool has it
+there_in : (is : Bool) (lsn : ℕ) (items : List Item) → is_there (if is then seen_page lsn items else bad_block) ≡ true
+there_in true lsn items = refl
+there_in false lsn items = refl
+
+count_at : (found : Option (List ℕ)) (block count : ℕ) → IsSome found ↔ (block < count) → is_there (seen found) ≡ nat_lt block count
+unfolding seen
+count_at None block count h =
+    elim (cases_order block count) [
+      | inl e ↦ sym (le-ltb block count (omega arith))
+      | inr (inl less) ↦ let e = h.1 less in cc
+      | inr (inr more) ↦ sym (le-ltb block count (omega arith))
+    ]
+count_at (Some bytes) block count h = there_in (is_page bytes) (lsn_of bytes) (items_of bytes) ∙ sym (lt-ltb block count (h.0 refl))
+
+pub count_is :
+    (blocks : Blocks) (table count : ℕ) → ((block : ℕ) → IsSome (blocks table block) ↔ (block < count))
+    → (block : ℕ) → is_there (view_of blocks table block) ≡ nat_lt block count
+count_is blocks table count h block = count_at (blocks table block) block count (h block)
+
+pub opened :
+    (node : Standby) (table count : ℕ) (at : Lsn) (pool : Pool) (state : XactState) (snapshot : Snapshot)
+    → view_of (content pool) ≡ node.blocks → transactions state ≡ node.transactions → in_numbers snapshot ≡ take_of state.known.known
+    → at ≡ node.at → ((block : ℕ) → is_there (view_of (content pool) table block) ≡ nat_lt block count)
+    → AnswersRows (bare node) table
+    (Scanned at.0 table count (pages_from (page_in (table_with table).columns (in_numbers snapshot) (statuses_in state.log) (content pool) table) 0 count))
+opened node table count at pool state snapshot e f g h n =
+    record {
+      blocks = count;
+      count = subst (λ (v : View). (block : ℕ) → is_there (v table block) ≡ nat_lt block count) e n;
+      says = ap (λ (a : Lsn). Scanned a.0 table count (pages_from (page_in (table_with table).columns (in_numbers snapshot) (statuses_in state.log) (content pool) table) 0 count)) h
+          ∙ ap (λ (page : ℕ → BlockRows). Scanned node.at.0 table count (pages_from page 0 count)) (same_pages table pool state snapshot node.blocks node.transactions e f g);
+    }

@@ -1,0 +1,186 @@
+-- The text of a scan, block after block.
+use Rattle.std.proofs.Common.{◌≡◌, ℕ, zero, suc, ◌+◌, ◌-◌, ◌<◌, ◌≤◌, Bool, true, false, cond, nat_lt, List, [], ◌∷◌, ◌++◌, Option, Result, Ok, Err, inl, inr, refl, sym, ap, subst, ◌∙◌, arith, append_assoc, append-nil}
+use Rattle.std.specs.Prelude.{if◌then◌else◌}
+use Rattle.pg_types.specs.declared.fail.Fail.{Fail}
+use Rattle.outside.specs.Sink.{Appends, AppendsPrefix}
+use Rattle.seq_scan.specs.BlockRows.{BlockEnd, BlockRows, Whole, ToastedAt, BadAt, UnknownAt, NoPage}
+use Rattle.standby_model.specs.Scan.{Reply, BadWords, LogRefused, NoTable, NotAdmitted, Scanned, is_whole, page_text, pages_from, pages_text, status_after, status_at, status_of}
+use Rattle.standby_cli.specs.Outcome.{IsReplied}
+use Rattle.standby_cli.proofs.Appending.{appends_both, appends_prefix, prefix_of_longer}
+
+-- the pages from this block on
+abbrev pub left_from : (ℕ → BlockRows) → ℕ → ℕ → List BlockRows
+left_from page blocks block = pages_from page block (blocks - block)
+
+one_more :
+    (page : ℕ → BlockRows) (blocks block n : ℕ) → blocks - block ≡ suc n
+    → left_from page blocks block ≡ page block ∷ (if is_whole (page block).end then pages_from page (block + 1) n else [])
+unfolding pages_from
+one_more page blocks block n e = ap (λ (k : ℕ). pages_from page block k) e
+
+-- a block that is whole, and the others
+goes_on :
+    (page : ℕ → BlockRows) (blocks block : ℕ) → block < blocks → is_whole (page block).end ≡ true
+    → left_from page blocks block ≡ page block ∷ left_from page blocks (block + 1)
+goes_on page blocks block less whole =
+    one_more page blocks block (blocks - (block + 1)) (omega arith)
+    ∙ ap (λ (b : Bool). page block ∷ (if b then pages_from page (block + 1) (blocks - (block + 1)) else [])) whole
+
+-- a block that is not whole is the last one
+stops_at :
+    (page : ℕ → BlockRows) (blocks block : ℕ) → block < blocks → is_whole (page block).end ≡ false
+    → left_from page blocks block ≡ page block ∷ []
+stops_at page blocks block less part =
+    one_more page blocks block (blocks - (block + 1)) (omega arith)
+    ∙ ap (λ (b : Bool). page block ∷ (if b then pages_from page (block + 1) (blocks - (block + 1)) else [])) part
+
+text_more :
+    (table blocks block : ℕ) (first : BlockRows) (rest : List BlockRows)
+    → pages_text table blocks block (first ∷ rest)
+    ≡ page_text table block (nat_lt (block + 1) blocks) first ++ pages_text table blocks (block + 1) rest
+unfolding pages_text
+text_more table blocks block first rest = refl
+
+text_none : (table blocks block : ℕ) → pages_text table blocks block [] ≡ []
+unfolding pages_text
+text_none table blocks block = refl
+
+none_left : (page : ℕ → BlockRows) (blocks block : ℕ) → blocks ≤ block → left_from page blocks block ≡ []
+unfolding pages_from
+none_left page blocks block le =
+    let none : blocks - block ≡ 0 = omega arith in
+    ap (λ (k : ℕ). pages_from page block k) none
+
+status_of_whole : (end : BlockEnd) → is_whole end ≡ true → status_at end ≡ 0
+status_of_whole Whole e = refl
+status_of_whole (ToastedAt line column) e = cc
+status_of_whole (BadAt line column) e = cc
+status_of_whole (UnknownAt line id) e = cc
+status_of_whole NoPage e = cc
+
+status_behind_whole : (first : BlockRows) (rest : List BlockRows) → is_whole first.end ≡ true → status_after (first ∷ rest) ≡ status_after rest
+status_behind_whole first [] e = status_of_whole first.end e
+status_behind_whole first (next ∷ rest) e = refl
+
+-- where a scan stands before a block: it wrote some text, which with that of the blocks left is the whole
+pub record Written (before now : Option (List ℕ)) (page : ℕ → BlockRows) (table blocks block : ℕ) : Type 0 where
+  pub text : List ℕ
+  pub appends : Appends before now text
+  pub whole : text ++ pages_text table blocks block (left_from page blocks block) ≡ pages_text table blocks 0 (pages_from page 0 blocks)
+  pub status : status_after (left_from page blocks block) ≡ status_after (pages_from page 0 blocks)
+
+pub at_first : (before : Option (List ℕ)) (page : ℕ → BlockRows) (table blocks : ℕ) → Appends before before [] → Written before before page table blocks 0
+at_first before page table blocks none =
+    let all : blocks - 0 ≡ blocks = omega arith in
+    record {
+      text = [];
+      appends = none;
+      whole = ap (λ (n : ℕ). pages_text table blocks 0 (pages_from page 0 n)) all;
+      status = ap (λ (n : ℕ). status_after (pages_from page 0 n)) all;
+    }
+
+text_here : (page : ℕ → BlockRows) (table blocks block : ℕ) (rest : List BlockRows) → left_from page blocks block ≡ page block ∷ rest
+    → pages_text table blocks block (left_from page blocks block)
+    ≡ page_text table block (nat_lt (block + 1) blocks) (page block) ++ pages_text table blocks (block + 1) rest
+text_here page table blocks block rest e =
+    ap (λ (pages : List BlockRows). pages_text table blocks block pages) e ∙ text_more table blocks block (page block) rest
+
+-- the text of a whole block was written
+pub wrote_whole :
+    (before between now : Option (List ℕ)) (page : ℕ → BlockRows) (table blocks block : ℕ) → block < blocks
+    → is_whole (page block).end ≡ true → Written before between page table blocks block
+    → Appends between now (page_text table block (nat_lt (block + 1) blocks) (page block))
+    → Written before now page table blocks (block + 1)
+wrote_whole before between now page table blocks block less whole w p =
+    let here = page_text table block (nat_lt (block + 1) blocks) (page block) in
+    let e = goes_on page blocks block less whole in record {
+      text = w.text ++ here;
+      appends = appends_both before between now w.text here w.appends p;
+      whole = append_assoc w.text here (pages_text table blocks (block + 1) (left_from page blocks (block + 1)))
+          ∙ ap (λ (t : List ℕ). w.text ++ t) (sym (text_here page table blocks block (left_from page blocks (block + 1)) e)) ∙ w.whole;
+      status = sym (status_behind_whole (page block) (left_from page blocks (block + 1)) whole)
+          ∙ sym (ap (λ (pages : List BlockRows). status_after pages) e) ∙ w.status;
+    }
+
+-- the text of the last block was written
+pub wrote_last :
+    (before between now : Option (List ℕ)) (page : ℕ → BlockRows) (table blocks block : ℕ) → block < blocks
+    → is_whole (page block).end ≡ false → Written before between page table blocks block
+    → Appends between now (page_text table block (nat_lt (block + 1) blocks) (page block))
+    → Appends before now (pages_text table blocks 0 (pages_from page 0 blocks)) × (status_at (page block).end ≡ status_after (pages_from page 0 blocks))
+wrote_last before between now page table blocks block less part w p =
+    let here = page_text table block (nat_lt (block + 1) blocks) (page block) in
+    let e = stops_at page blocks block less part in
+    let last = text_here page table blocks block [] e
+    ∙ ap (λ (t : List ℕ). here ++ t) (text_none table blocks (block + 1)) ∙ append-nil here in (
+      subst (λ (t : List ℕ). Appends before now t) (ap (λ (t : List ℕ). w.text ++ t) (sym last) ∙ w.whole)
+          (appends_both before between now w.text here w.appends p),
+      sym (ap (λ (pages : List BlockRows). status_after pages) e) ∙ w.status,
+    )
+
+-- all blocks were written
+pub wrote_all :
+    (before now : Option (List ℕ)) (page : ℕ → BlockRows) (table blocks block : ℕ) → blocks ≤ block
+    → Written before now page table blocks block
+    → Appends before now (pages_text table blocks 0 (pages_from page 0 blocks)) × (0 ≡ status_after (pages_from page 0 blocks))
+wrote_all before now page table blocks block le w =
+    let e = none_left page blocks block le in
+    let nothing = ap (λ (pages : List BlockRows). pages_text table blocks block pages) e ∙ text_none table blocks block in (
+      subst (λ (t : List ℕ). Appends before now t) (sym (append-nil w.text) ∙ ap (λ (t : List ℕ). w.text ++ t) (sym nothing) ∙ w.whole) w.appends,
+      sym (ap (λ (pages : List BlockRows). status_after pages) e) ∙ w.status,
+    )
+
+-- a prefix of a block's text was written
+pub wrote_some :
+    (before between now : Option (List ℕ)) (page : ℕ → BlockRows) (table blocks block : ℕ) → block < blocks
+    → Written before between page table blocks block
+    → AppendsPrefix between now (page_text table block (nat_lt (block + 1) blocks) (page block))
+    → AppendsPrefix before now (pages_text table blocks 0 (pages_from page 0 blocks))
+wrote_some before between now page table blocks block less w p =
+    let here = page_text table block (nat_lt (block + 1) blocks) (page block) in
+    let rest = if is_whole (page block).end then pages_from page (block + 1) (blocks - (block + 1)) else [] in
+    let e : left_from page blocks block ≡ page block ∷ rest = one_more page blocks block (blocks - (block + 1)) (omega arith) in
+    let longer = prefix_of_longer between now here (pages_text table blocks (block + 1) rest) p in
+    let same = sym (text_here page table blocks block rest e) in
+    subst (λ (t : List ℕ). AppendsPrefix before now t) (ap (λ (t : List ℕ). w.text ++ t) same ∙ w.whole)
+    (appends_prefix before between now w.text (here ++ pages_text table blocks (block + 1) rest) w.appends longer)
+
+-- nothing more was written
+pub wrote_front :
+    (before now : Option (List ℕ)) (page : ℕ → BlockRows) (table blocks block : ℕ) → Written before now page table blocks block
+    → AppendsPrefix now now [] → AppendsPrefix before now (pages_text table blocks 0 (pages_from page 0 blocks))
+wrote_front before now page table blocks block w none =
+    let rest = pages_text table blocks block (left_from page blocks block) in
+    subst (λ (t : List ℕ). AppendsPrefix before now t) w.whole
+    (appends_prefix before now now w.text rest w.appends (prefix_of_longer now now [] rest none))
+
+-- the status of an answer is no fault's
+replied_at : (end : BlockEnd) → IsReplied (status_at end)
+replied_at Whole = inl refl
+replied_at (ToastedAt line column) = inr (inl refl)
+replied_at (BadAt line column) = inr (inl refl)
+replied_at (UnknownAt line id) = inr (inr (inr refl))
+replied_at NoPage = inr (inr (inr refl))
+
+replied_after : (pages : List BlockRows) → IsReplied (status_after pages)
+replied_after [] = inl refl
+replied_after (page ∷ []) = replied_at page.end
+replied_after (page ∷ next ∷ pages) = replied_after (next ∷ pages)
+
+pub replied : (reply : Reply) → IsReplied (status_of reply)
+replied BadWords = inr (inr (inl refl))
+replied (LogRefused at what) = inr (inr (inr refl))
+replied NoTable = inr (inl refl)
+replied (NotAdmitted min at awaited state) = inr (inl refl)
+replied (Scanned at table blocks pages) = replied_after pages
+
+pub no_fault : (status n : ℕ) → IsReplied status → status ≡ n → 5 < n → ⊥
+no_fault status n (inl e) f less = omega arith
+no_fault status n (inr (inl e)) f less = omega arith
+no_fault status n (inr (inr (inl e))) f less = omega arith
+no_fault status n (inr (inr (inr e))) f less = omega arith
+
+-- a table without blocks
+pub status_of_none : (at table blocks : ℕ) (page : ℕ → BlockRows) → blocks ≡ 0 → status_of (Scanned at table blocks (pages_from page 0 blocks)) ≡ 0
+unfolding pages_from
+status_of_none at table blocks page e = ap (λ (n : ℕ). status_after (pages_from page 0 n)) e

@@ -1,0 +1,25 @@
+use Rattle.std.proofs.Common.{◌≡◌, refl, ap, ◌∙◌, lit≤, subst, List}
+use Rattle.std.proofs.lemmas.Result.{IfOk-weaker}
+use Rattle.pg_types.specs.declared.names.Locator.{Locator}
+use Rattle.page_store.specs.Content.{content}
+use Rattle.heap_redo.specs.Redone.{View, view_of}
+use Rattle.standby_core.specs.Standby.{at_origin}
+use Rattle.standby_core.specs.View.{standby}
+use Rattle.standby_model.specs.Archived.{origin}
+use Rattle.standby_model.specs.Log.{start}
+use Rattle.standby_model.specs.Tables.{database, known}
+use Rattle.standby_cli.proofs.Replaying.{no_blocks}
+use Rattle.standby_cli.proofs.replay.start.Goals as goal
+
+-- 16 MiB are 2 to the 24th
+pub at_origin-requires-clause-segment_size : goal.at_origin-requires-clause-segment_size
+at_origin-requires-clause-segment_size c = record { exponent = 24; low = lit≤ tt; high = lit≤ tt; power = refl }
+
+pub returns : goal.returns
+returns c =
+    let files = c.as_slice.ensures.value ∙ c.in_ok-known.ensures in
+    let none = no_blocks (content c.in_ok-pool.pool) c.in_ok-pool.ensures.blocks in
+    IfOk-weaker c.at_origin.result _ _
+    (λ node e. e ∙ ap (λ (k : List Locator). at_origin database k origin (view_of (content c.in_ok-pool.pool))) files
+    ∙ ap (λ (view : View). at_origin database known origin view) none)
+    c.at_origin.ensures

@@ -1,0 +1,44 @@
+-- What replay of the archive's log leaves.
+use Rattle.std.specs.Prelude.{◌≡◌, ℕ, List, [], Option, IfSome}
+use Rattle.wal_bodies.specs.declared.types.Rec.{Rec}
+use Rattle.wal_reader.specs.Kept.{AreTold}
+use Rattle.wal_reader.specs.Told.{Told}
+use Rattle.standby_core.specs.Standby.{Standby}
+use Rattle.standby_core.specs.View.{standby}
+use Rattle.standby_model.specs.Archived.{segment_size}
+use Rattle.standby_model.specs.Log.{IsLog, Leads, Ended, Refused}
+use Rattle.standby_model.specs.Scan.{AnswersStop, LogRefused, Reply}
+use Rattle.standby_model.specs.Tables.{known}
+use Rattle.standby_cli.specs.declared.replay.Replay.{Replay}
+use Rattle.standby_cli.specs.declared.replay.Replay.TheVariants as replay
+
+-- the log of timeline 1 of system 7 with these bytes
+abbrev pub told : (ℕ → Option ℕ) → Told
+told byte = record { byte = byte; owner = λ at. 1; system = 7; segsize = segment_size }
+
+-- a standby without what it keeps of the log
+abbrev pub bare : Standby → Standby
+bare node = record node { kept = record { from = 0; bytes = [] } }
+
+-- the standby stands where a log leads to, if the log's bytes are told
+abbrev pub StandsIn : Option (ℕ → Option ℕ) → Standby → Type 0
+StandsIn bytes node = IfSome bytes (λ byte. AreTold byte node.kept × ((log : List Rec) × Leads (told byte) log (bare node)))
+
+-- the log was replayed to its end, or to a record that is refused
+abbrev pub IsReplayedOf : (ℕ → Option ℕ) → Replay → Type 0
+IsReplayedOf byte (replay.Ended node why) = (log : List Rec) × IsLog (told byte) log (bare (standby node)) (Ended why)
+IsReplayedOf byte (replay.Refused at what) =
+    (log : List Rec) × ((node : Standby) × (IsLog (told byte) log node (Refused what) × (node.at ≡ at)))
+
+abbrev pub IsReplayed : Option (ℕ → Option ℕ) → Replay → Type 0
+IsReplayed bytes replayed = IfSome bytes (λ byte. IsReplayedOf byte replayed)
+
+-- the node has the described tables
+abbrev pub HasTables : Replay → Type 0
+HasTables (replay.Ended node why) = (standby node).known ≡ known
+HasTables (replay.Refused at what) = Unit {0}
+
+-- the answer where replay left this
+abbrev pub AnswersReplay : List ℕ → Replay → Reply → Type 0
+AnswersReplay name (replay.Ended node why) reply = AnswersStop name (bare (standby node)) (Ended why) reply
+AnswersReplay name (replay.Refused at what) reply = reply ≡ LogRefused at.0 what
