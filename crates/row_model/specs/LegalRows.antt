@@ -1,7 +1,7 @@
 -- What a primary keeps to when it writes of a table's rows, record by record, beside the rules of transactions.
 -- Sources: heapam.c (heap_insert, heap_delete, heap_update, heap_abort_speculative), heapam_visibility.c (SetHintBits),
 -- xloginsert.c (XLogRegisterBuffer, XLogRecordAssemble).
-use Rattle.std.specs.Prelude.{◌≡◌, ℕ, ◌+◌, ◌<◌, ◌≤◌, ◌^◌, Bool, true, false, ◌==◌, not, ◌&&◌, List, [], ◌∷◌, length, drop, All, Option, Some, None, is_some, IfSome}
+use Rattle.std.specs.Prelude.{◌≡◌, ℕ, ◌<◌, ◌^◌, Bool, true, false, ◌==◌, not, ◌&&◌, List, [], ◌∷◌, drop, All, Option, Some, None}
 use Rattle.std.specs.List.{list_all}
 use Rattle.pg_types.specs.declared.names.Locator.{Locator}
 use Rattle.pg_types.specs.declared.names.Xid.{Xid}

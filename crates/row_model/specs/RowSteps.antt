@@ -2,7 +2,6 @@
 -- Sources: heapam_xlog.h; heapam.c (log_heap_update, heap_multi_insert); xlogutils.c (XLogReadBufferForRedo).
 use Rattle.std.specs.Prelude.{ℕ, ◌+◌, ◌==◌, Bool, true, false, not, ◌&&◌, ◌||◌, nat_le, max, List, [], ◌∷◌, ◌++◌, map, Option, Some, None, if◌then◌else◌}
 use Rattle.pg_types.specs.declared.names.Locator.{Locator}
-use Rattle.pg_types.specs.declared.names.Xid.{Xid}
 use Rattle.wal_record.specs.declared.new.NewImage.{NewImage}
 use Rattle.wal_bodies.specs.declared.types.NewTuple.{NewTuple}
 use Rattle.wal_bodies.specs.declared.types.RecBlock.{RecBlock}
@@ -12,7 +11,7 @@ use Rattle.wal_bodies.specs.declared.types.RecKind.TheVariants.{Insert, Delete, 
 use Rattle.wal_bodies.specs.Fields.{has}
 use Rattle.wal_bodies.specs.Heads.{marked_mask}
 use Rattle.wal_bodies.specs.HeapKinds.{same_locator}
-use Rattle.wal_bodies.specs.After.{applied, is_images, joined, number_of, page_of_image, tuple_of, user_data}
+use Rattle.wal_bodies.specs.After.{applied, joined, number_of, page_of_image, tuple_of, user_data}
 use Rattle.heap_tuple.specs.Tuple.{is_lock_only}
 use Rattle.heap_tuple.specs.declared.tuple_view.MaxOf.{MaxOf}
 use Rattle.heap_tuple.specs.declared.tuple_view.MaxOf.TheVariants.{None as NoDeleter, Xid as DeletedBy, Multi}

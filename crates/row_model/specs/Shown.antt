@@ -1,5 +1,5 @@
 -- The blocks of a table that show its versions.
-use Rattle.std.specs.Prelude.{◌≡◌, ℕ, ◌<◌, ◌≤◌, List, Option, Some, None, sum_by, if◌then◌else◌}
+use Rattle.std.specs.Prelude.{◌≡◌, ℕ, ◌<◌, ◌≤◌, List, Some, None, sum_by, if◌then◌else◌}
 use Rattle.heap_tuple.specs.Tuple.{hoff_of}
 use Rattle.heap_redo.specs.Redone.{Seen, absent, bad_block, seen_page}
 use Rattle.transaction_model.specs.Transactions.{Statuses, TransactionRecord}

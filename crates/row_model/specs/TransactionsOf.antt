@@ -1,6 +1,6 @@
 -- What a typed record says of transactions.
 -- Sources: xact.c (xact_redo), standby.c (standby_redo), xlog.c (xlog_redo).
-use Rattle.std.specs.Prelude.{ℕ, ◌==◌, List, bit_and, map, if◌then◌else◌}
+use Rattle.std.specs.Prelude.{◌==◌, List, bit_and, map, if◌then◌else◌}
 use Rattle.wal_record.specs.declared.types.RecordHead.{RecordHead}
 use Rattle.wal_bodies.specs.declared.types.Rec.{Rec}
 use Rattle.wal_bodies.specs.declared.types.RecKind.{RecKind}
