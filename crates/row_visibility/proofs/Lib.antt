@@ -1,3 +1,4 @@
 mod Along
 mod Statuses
 mod Visible
+mod WorkedSight

@@ -1,5 +1,5 @@
 -- What a standby's snapshot and commit log say after a legal log.
-use Rattle.std.specs.Prelude.{◌≡◌, ℕ, Bool, false, List, [], ◌∷◌, Ok}
+use Rattle.std.specs.Prelude.{◌≡◌, ℕ, false, List, [], ◌∷◌, Ok}
 use Rattle.wal_bodies.specs.declared.types.Rec.{Rec}
 use Rattle.known_assigned.specs.declared.state.State.TheVariants.{Ready}
 use Rattle.standby_snapshot.specs.Snapshot.{take_of}

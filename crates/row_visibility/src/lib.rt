@@ -2,6 +2,7 @@
 #![tactic(auto)]
 
 ghost use Rattle.row_visibility.specs.Sees.{SeesRows, StateAlong, XminAlong};
+ghost use Rattle.row_visibility.specs.WorkedSight.{IsWorkedSight};
 
 /// The state of the rules is that of the log.
 pub fn state_along()
@@ -24,4 +25,11 @@ pub fn sees_rows()
 {
     transaction_model::transactions::state_agrees();
     transaction_model::transactions::ids_decide();
+}
+
+/// The log that is worked by hand meets what these laws ask for, and its tuples are seen as worked.
+pub fn worked_sight()
+    ensures { IsWorkedSight }
+{
+    row_model::worked_rows();
 }
