@@ -1,10 +1,9 @@
 -- What a standby knows along the log that it replays.
-use Rattle.std.proofs.Common.{◌≡◌, ℕ, ◌<◌, ◌≤◌, Bool, true, false, not, ◌||◌, List, [], ◌∷◌, Option, Some, None, Result, Ok, Err, arith, lit≤, refl, sym, ap, subst, ◌∙◌}
+use Rattle.std.proofs.Common.{◌≡◌, ◌≤◌, Bool, true, false, not, ◌||◌, List, [], ◌∷◌, Option, Some, None, Ok, arith, lit≤, refl, sym, ap, subst, ◌∙◌}
 use Rattle.std.specs.Prelude.{is_some, if◌then◌else◌}
 use Rattle.pg_types.specs.declared.names.Lsn.{Lsn}
 use Rattle.wal_reader.specs.Told.{Told}
 use Rattle.wal_bodies.specs.declared.types.Rec.{Rec}
-use Rattle.heap_redo.specs.declared.fault.RedoFault.{RedoFault}
 use Rattle.heap_redo.specs.Redone.{View, redone}
 use Rattle.xact_redo.specs.State.{TransactionState, state_after}
 use Rattle.row_redo.specs.Shown.{Redoes}
@@ -12,7 +11,7 @@ use Rattle.row_visibility.specs.Sees.{state_along}
 use Rattle.standby_core.specs.Replay.{awaited_after, ends_backup}
 use Rattle.standby_core.specs.Standby.{Standby, at_origin}
 use Rattle.standby_model.specs.Archived.{origin}
-use Rattle.standby_model.specs.Log.{Goes, Leads, applied, start}
+use Rattle.standby_model.specs.Log.{Leads}
 use Rattle.standby_model.specs.Tables.{known}
 use Rattle.legal_scan.specs.Answer.{has_backup_ended}
 

@@ -1,9 +1,8 @@
 -- The program's answer over a legal log.
-use Rattle.std.proofs.Common.{◌≡◌, ℕ, zero, suc, ◌+◌, ◌<◌, ◌≤◌, ◌⊎◌, inl, inr, Bool, true, false, not, ◌&&◌, nat_lt, nat_le, List, [], ◌∷◌, Option, Some, None, Result, Ok, arith, refl, sym, ap, subst, ◌∙◌}
-use Rattle.std.specs.Prelude.{codes, filter, is_some, if◌then◌else◌, nat_eq}
+use Rattle.std.proofs.Common.{◌≡◌, ℕ, zero, suc, ◌+◌, ◌<◌, ◌≤◌, ◌⊎◌, inl, inr, Bool, true, false, not, ◌&&◌, nat_lt, nat_le, List, [], ◌∷◌, Option, Some, None, arith, refl, sym, ap, subst, ◌∙◌}
+use Rattle.std.specs.Prelude.{is_some, if◌then◌else◌, nat_eq}
 use Rattle.std.specs.Cmp.Lexicographic.{pointwise}
 use Rattle.std.proofs.lemmas.Bool.{and_parts, le-leb, le-ltb, lt-ltb}
-use Rattle.pg_types.specs.declared.names.Locator.{Locator}
 use Rattle.pg_types.specs.declared.names.Lsn.{Lsn}
 use Rattle.wal_bodies.specs.declared.types.Rec.{Rec}
 use Rattle.wal_reader.specs.declared.types.EndWhy.{EndWhy}
@@ -24,11 +23,11 @@ use Rattle.row_pages.specs.Pages.{ScanGivesRows, SeesThem}
 use Rattle.standby_core.specs.Standby.{Standby}
 use Rattle.standby_model.specs.Archived.{origin, told_by}
 use Rattle.standby_model.specs.Laws.{OneLog}
-use Rattle.standby_model.specs.Log.{IsLog, Leads, Stop, Ended}
+use Rattle.standby_model.specs.Log.{Leads, Stop, Ended}
 use Rattle.standby_model.specs.Tables.{known, number_of, table_t, table_u, table_with}
-use Rattle.standby_model.specs.Scan.{Reply, NotAdmitted, Scanned, AnswersLog, AnswersOpening, AnswersRows as AnswersBlocks, AnswersStop, AnswersTable, is_admitted, is_ready, is_there, is_whole, page_of, pages_from}
+use Rattle.standby_model.specs.Scan.{Reply, NotAdmitted, Scanned, AnswersOpening, AnswersRows as AnswersBlocks, AnswersStop, AnswersTable, is_admitted, is_ready, is_there, is_whole, page_of, pages_from}
 use Rattle.standby_model.proofs.Replies.{one_count}
-use Rattle.legal_scan.specs.Answer.{AnswersAdmitted, AnswersRows, IsLegal, IsLegalLog, LegalAnswer, LegalScan, admits, committed_in, has_backup_ended, origin_with, page_with}
+use Rattle.legal_scan.specs.Answer.{AnswersAdmitted, AnswersRows, IsLegal, LegalScan, admits, committed_in, has_backup_ended, origin_with, page_with}
 use Rattle.legal_scan.proofs.Along.{awaited_along, awaited_with, awaits, min_along, past_redo, redoes, transactions_along}
 
 -- the table that a name names is t or u

@@ -1,5 +1,5 @@
 -- The line of a fault after a front of an answer's text.
-use Rattle.std.proofs.Common.{◌≡◌, ℕ, ◌<◌, ◌≤◌, ◌⊎◌, inl, inr, List, ◌++◌, Option, Some, None, IfSome, take, subst, arith}
+use Rattle.std.proofs.Common.{ℕ, ◌≤◌, ◌⊎◌, inl, inr, List, ◌++◌, Option, Some, None, IfSome, take, subst, arith}
 use Rattle.outside.specs.Faults.{Rose}
 use Rattle.outside.specs.Sink.{Appends, AppendsPrefix}
 use Rattle.standby_cli.specs.Outcome.{AppendsUnless, CutsOff}

@@ -1,8 +1,7 @@
 -- The answer over a legal log.
-use Rattle.std.proofs.Common.{◌≡◌, ℕ, List, Option, Some, None, IfSome, subst}
-use Rattle.standby_model.specs.Scan.{Reply, Answers, AnswersWords, table_of}
+use Rattle.std.proofs.Common.{ℕ, List, Option, Some, None, IfSome, subst}
+use Rattle.standby_model.specs.Scan.{Reply, Answers, AnswersWords}
 use Rattle.legal_scan.specs.Answer.{LegalScan, WhereLegal}
-use Rattle.standby_cli.specs.Outcome.{IsReplied}
 
 where_legal :
     LegalScan → (words : List (List ℕ)) (files : List ℕ → Option (List ℕ)) (P : Reply → Type 0) (reply : Reply)

@@ -1,16 +1,14 @@
 -- A scan is opened, or not admitted, as the standby stands.
-use Rattle.std.proofs.Common.{◌≡◌, ℕ, ◌<◌, Bool, true, false, not, ◌&&◌, nat_lt, List, Option, Some, None, arith, inl, inr, refl, sym, ap, subst, ◌∙◌}
+use Rattle.std.proofs.Common.{◌≡◌, ℕ, ◌<◌, Bool, true, false, nat_lt, List, Option, Some, None, arith, inl, inr, refl, sym, ap, subst, ◌∙◌}
 use Rattle.std.specs.Prelude.{◌↔◌, IsSome, if◌then◌else◌}
 use Rattle.std.proofs.lemmas.Bool.{and_parts, cases_order, le-ltb, lt-ltb}
 use Rattle.heap_page.specs.Item.{Item}
 use Rattle.heap_page.specs.Page.{is_page, items_of, lsn_of}
 use Rattle.pg_types.specs.declared.names.Lsn.{Lsn}
-use Rattle.pg_types.specs.declared.status.Status.{Status}
 use Rattle.page_store.specs.declared.pool.Pool.{Pool}
 use Rattle.page_store.specs.Content.{Blocks, content}
 use Rattle.commit_log.specs.Log.{status_of as statuses_in}
 use Rattle.heap_redo.specs.Redone.{View, bad_block, seen, seen_page, view_of}
-use Rattle.heap_tuple.specs.declared.cell.Column.{Column}
 use Rattle.known_assigned.specs.declared.state.State.{State}
 use Rattle.known_assigned.specs.declared.state.State.TheVariants.{Initialized, Pending, Ready}
 use Rattle.seq_scan.specs.BlockRows.{BlockRows, block_rows}
@@ -22,7 +20,7 @@ use Rattle.xact_redo.specs.Sees.{sees}
 use Rattle.standby_core.specs.declared.types.NodeStatus.{NodeStatus}
 use Rattle.standby_core.specs.Standby.{Standby}
 use Rattle.standby_core.specs.View.{status_of}
-use Rattle.standby_model.specs.Scan.{AnswersOpening, AnswersRows, NotAdmitted, Scanned, is_admitted, is_ready, is_there, page_of, pages_from}
+use Rattle.standby_model.specs.Scan.{AnswersOpening, AnswersRows, NotAdmitted, Scanned, is_admitted, is_ready, is_there, pages_from}
 use Rattle.standby_model.specs.Tables.{table_with}
 use Rattle.standby_cli.specs.Meaning.{page_in}
 use Rattle.standby_cli.specs.Replays.{bare}

@@ -1,7 +1,6 @@
 -- The text of a scan, block after block.
-use Rattle.std.proofs.Common.{◌≡◌, ℕ, zero, suc, ◌+◌, ◌-◌, ◌<◌, ◌≤◌, Bool, true, false, cond, nat_lt, List, [], ◌∷◌, ◌++◌, Option, Result, Ok, Err, inl, inr, refl, sym, ap, subst, ◌∙◌, arith, append_assoc, append-nil}
+use Rattle.std.proofs.Common.{◌≡◌, ℕ, suc, ◌+◌, ◌-◌, ◌<◌, ◌≤◌, Bool, true, false, nat_lt, List, [], ◌∷◌, ◌++◌, Option, inl, inr, refl, sym, ap, subst, ◌∙◌, arith, append_assoc, append-nil}
 use Rattle.std.specs.Prelude.{if◌then◌else◌}
-use Rattle.pg_types.specs.declared.fail.Fail.{Fail}
 use Rattle.outside.specs.Sink.{Appends, AppendsPrefix}
 use Rattle.seq_scan.specs.BlockRows.{BlockEnd, BlockRows, Whole, ToastedAt, BadAt, UnknownAt, NoPage}
 use Rattle.standby_model.specs.Scan.{Reply, BadWords, LogRefused, NoTable, NotAdmitted, Scanned, is_whole, page_text, pages_from, pages_text, status_after, status_at, status_of}

@@ -1,5 +1,5 @@
 -- Replay of a log, record by record, against the log's definition.
-use Rattle.std.proofs.Common.{◌≡◌, ◌⊎◌, inl, inr, ℕ, ◌<◌, List, [], ◌∷◌, Option, Some, None, IfSome, Result, Ok, Err, refl, sym, ap, subst, ◌∙◌, ◌≤◌, ◌+◌, ◌^◌, lit≤}
+use Rattle.std.proofs.Common.{◌≡◌, ℕ, ◌<◌, List, [], ◌∷◌, Option, Some, None, Result, Ok, Err, refl, sym, ap, subst, ◌∙◌, ◌≤◌, ◌+◌, ◌^◌, lit≤}
 use Rattle.std.proofs.Math.Path.{fun_ext}
 use Rattle.pg_types.specs.declared.names.Lsn.{Lsn}
 use Rattle.pg_types.specs.declared.names.Locator.{Locator}
@@ -15,11 +15,11 @@ use Rattle.wal_bodies.specs.declared.types.BodyFault.{BodyFault}
 use Rattle.page_store.specs.Content.{Blocks}
 use Rattle.standby_core.specs.declared.types.Refusal.{Refusal}
 use Rattle.standby_core.specs.declared.types.Replayed.TheVariants.{Applied, AtEnd, Refused as IsRefused_}
-use Rattle.standby_core.specs.Replay.{IsApplied, IsDue, IsRefusedAs, by_blocks, by_body, by_form, Replays, StaysUnlessApplied, typed_at}
+use Rattle.standby_core.specs.Replay.{IsApplied, IsDue, IsRefusedAs, by_blocks, by_body, by_form, StaysUnlessApplied, typed_at}
 use Rattle.standby_core.specs.Standby.{Standby, at_origin, told_to}
 use Rattle.standby_core.specs.declared.node.Node.{Node}
 use Rattle.standby_core.specs.View.{ReplaysTold, standby}
-use Rattle.standby_model.specs.Archived.{origin, segment_size}
+use Rattle.standby_model.specs.Archived.{segment_size}
 use Rattle.standby_model.specs.Log.{Goes, IsLog, IsRefused, IsRefusedBlock, IsRefusedBody, Leads, Ended, Refused, applied, found_at, start}
 use Rattle.standby_model.specs.Tables.{database, known}
 use Rattle.standby_cli.specs.declared.replay.Replay.TheVariants as replay

@@ -1,7 +1,6 @@
 -- What a run leaves: its exit status, and what it wrote.
-use Rattle.std.specs.Prelude.{◌≡◌, ℕ, ◌⊎◌, List, ◌++◌, take, Option, None, Some, Result, Ok, Err}
+use Rattle.std.specs.Prelude.{◌≡◌, ℕ, ◌⊎◌, List, ◌++◌, take, Option, Result, Ok, Err}
 use Rattle.pg_types.specs.declared.fail.Fail.{Fail}
-use Rattle.outside.specs.Faults.{Rose}
 use Rattle.outside.specs.Sink.{Appends, AppendsPrefix}
 
 -- the exit statuses of faults: the archive's, the sink's, and want of memory

@@ -1,5 +1,5 @@
 -- One log is told: two logs of one length that lead somewhere are one, and none is longer than a whole log.
-use Rattle.std.proofs.Common.{◌≡◌, ℕ, ◌<◌, List, [], ◌∷◌, length, Option, Some, None, Result, Ok, Err, arith, refl, sym, ap, subst, ◌∙◌, inl, inr}
+use Rattle.std.proofs.Common.{◌≡◌, ◌<◌, List, [], ◌∷◌, length, Result, Ok, Err, arith, refl, sym, ap, subst, ◌∙◌, inl, inr}
 use Rattle.std.proofs.lemmas.Bool.{cases_order, cases_eq}
 use Rattle.wal_reader.specs.declared.types.Stop.{Stop as ReadStop}
 use Rattle.wal_reader.specs.declared.types.Stop.TheVariants.{End}
@@ -13,7 +13,7 @@ use Rattle.standby_core.specs.declared.types.Refusal.{Refusal}
 use Rattle.standby_core.specs.Standby.{Standby}
 use Rattle.standby_core.specs.Replay.{typed_at}
 use Rattle.standby_model.specs.Tables.{known}
-use Rattle.standby_model.specs.Log.{Goes, IsLog, IsRefused, IsRefusedBlock, IsRefusedBody, Leads, Stop, Ended, Refused, StopsBy, applied, found_at}
+use Rattle.standby_model.specs.Log.{Goes, IsRefused, IsRefusedBlock, IsRefusedBody, Leads, Stop, Ended, Refused, StopsBy, applied, found_at}
 use Rattle.standby_model.specs.Laws.{OneLog}
 
 one_ok : {A E : Type 0} (r : Result A E) (a b : A) → r ≡ Ok a → r ≡ Ok b → a ≡ b

@@ -1,10 +1,9 @@
 -- The answer to given words over given files is one.
-use Rattle.std.proofs.Common.{◌≡◌, ℕ, ◌<◌, Bool, true, false, nat_lt, List, Option, Some, None, arith, refl, sym, subst, ap, ◌∙◌, inl, inr}
+use Rattle.std.proofs.Common.{◌≡◌, ℕ, ◌<◌, Bool, true, false, nat_lt, List, Option, Some, None, arith, sym, subst, ap, ◌∙◌, inl, inr}
 use Rattle.std.proofs.lemmas.Bool.{cases_order, lt-ltb, le-ltb, false≢true}
-use Rattle.wal_bodies.specs.declared.types.Rec.{Rec}
 use Rattle.standby_core.specs.Standby.{Standby}
 use Rattle.standby_model.specs.Archived.{told_by}
-use Rattle.standby_model.specs.Log.{IsLog, Stop, Ended, Refused}
+use Rattle.standby_model.specs.Log.{Stop, Ended, Refused}
 use Rattle.standby_model.specs.Tables.{number_of}
 use Rattle.standby_model.specs.Scan.{Reply, Scanned, AnswersLog, AnswersOpening, AnswersRows, AnswersStop, AnswersTable, AnswersWords, is_admitted, is_there, page_of, pages_from, table_of}
 use Rattle.standby_model.specs.Laws.{OneAnswer}

@@ -2,7 +2,7 @@
 -- ended, of a kind that is read and not refused at the blocks that it changes; where it leaves the standby, and why it
 -- goes no further.
 -- Sources: xlogreader.c (XLogReadRecord), xlogrecovery.c (PerformWalRecovery, ApplyWalRecord).
-use Rattle.std.specs.Prelude.{◌≡◌, ℕ, ◌<◌, List, [], ◌∷◌, Option, Some, None, Result, Ok, Err}
+use Rattle.std.specs.Prelude.{◌≡◌, ◌<◌, List, [], ◌∷◌, Some, Result, Ok, Err}
 use Rattle.wal_record.specs.declared.types.PrevRule.TheVariants.{Is}
 use Rattle.wal_reader.specs.declared.types.EndWhy.{EndWhy}
 use Rattle.wal_reader.specs.declared.types.Stop.{Stop as ReadStop}

@@ -19,7 +19,7 @@ use Rattle.standby_core.specs.declared.types.Refusal.TheVariants.{Compressed, To
 use Rattle.standby_core.specs.Standby.{Standby}
 use Rattle.standby_model.specs.Archived.{told_by}
 use Rattle.standby_model.specs.Log.{IsLog, Stop, Ended, Refused}
-use Rattle.standby_model.specs.Tables.{Table, number_of, table_with}
+use Rattle.standby_model.specs.Tables.{number_of, table_with}
 
 -- what the command answers: its words are not `scan` and a table; the record at this position is refused; the table is not
 -- described; the standby does not admit scans, with its minimum and position, whether the end of the base backup

@@ -1,10 +1,7 @@
-use Rattle.std.proofs.Common.{◌≡◌, ℕ, ◌≤◌, ◌+◌, ◌^◌, Option, refl, sym, ap, subst, ◌∙◌, arith, lit≤}
-use Rattle.pg_types.specs.declared.names.Lsn.{Lsn}
+use Rattle.std.proofs.Common.{◌≡◌, ℕ, refl, ap, subst, ◌∙◌, arith}
 use Rattle.wal_archive.specs.ArchiveLog.{archived_bytes}
-use Rattle.standby_core.specs.Standby.{Standby, at_origin}
-use Rattle.standby_core.specs.View.{ReplaysTold, standby}
+use Rattle.standby_core.specs.View.{standby}
 use Rattle.standby_model.specs.Archived.{segment_size}
-use Rattle.standby_model.specs.Log.{start}
 use Rattle.standby_cli.proofs.Replaying.{ended_in, led_on, refused_in, stands_first, started}
 use Rattle.standby_cli.proofs.replay.replay_log.Goals as goal
 

@@ -1,12 +1,10 @@
-use Rattle.std.proofs.Common.{◌≡◌, refl, ap, ◌∙◌, lit≤, subst, List}
+use Rattle.std.proofs.Common.{refl, ap, ◌∙◌, lit≤, List}
 use Rattle.std.proofs.lemmas.Result.{IfOk-weaker}
 use Rattle.pg_types.specs.declared.names.Locator.{Locator}
 use Rattle.page_store.specs.Content.{content}
 use Rattle.heap_redo.specs.Redone.{View, view_of}
 use Rattle.standby_core.specs.Standby.{at_origin}
-use Rattle.standby_core.specs.View.{standby}
 use Rattle.standby_model.specs.Archived.{origin}
-use Rattle.standby_model.specs.Log.{start}
 use Rattle.standby_model.specs.Tables.{database, known}
 use Rattle.standby_cli.proofs.Replaying.{no_blocks}
 use Rattle.standby_cli.proofs.replay.start.Goals as goal

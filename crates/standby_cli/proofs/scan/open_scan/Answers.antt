@@ -1,4 +1,4 @@
-use Rattle.std.proofs.Common.{◌≡◌, Bool, true, false, sym, ap, subst, ◌∙◌}
+use Rattle.std.proofs.Common.{◌≡◌, Bool, true, sym, ap, subst, ◌∙◌}
 use Rattle.page_store.specs.Content.{content}
 use Rattle.xact_redo.specs.State.{TransactionState, transactions}
 use Rattle.standby_core.specs.declared.types.NodeStatus.{NodeStatus}

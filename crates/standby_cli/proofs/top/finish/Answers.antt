@@ -1,4 +1,4 @@
-use Rattle.std.proofs.Common.{◌≡◌, ◌⊎◌, ◌∙◌, ℕ, inl, map, subst, sym, lit<}
+use Rattle.std.proofs.Common.{◌⊎◌, ◌∙◌, ℕ, inl, subst, sym, lit<}
 use Rattle.standby_cli.specs.Outcome.{IsReplied}
 use Rattle.standby_cli.proofs.Pages.{no_fault, replied}
 use Rattle.std.specs.Prelude.{codes}

@@ -1,4 +1,4 @@
-use Rattle.std.proofs.Common.{◌≡◌, ◌≤◌, ℕ, Bool, true, false, nat_lt, List, ◌+◌, arith, refl, sym, ap, subst, ◌∙◌}
+use Rattle.std.proofs.Common.{nat_lt, ◌+◌, arith, refl, sym, ap, subst, ◌∙◌}
 use Rattle.commit_log.specs.Log.{status_of}
 use Rattle.page_store.specs.Content.{Blocks, content}
 use Rattle.outside.specs.Sink.{Appends, AppendsPrefix}
