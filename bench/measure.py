@@ -4,6 +4,7 @@ import os
 import re
 import subprocess
 import sys
+import tempfile
 import time
 
 PAGE = 8192
@@ -111,3 +112,23 @@ def tell_growth(runs):
     for log, few in runs[:-1]:
         print("%s, from %s to %s: %.2f times the log takes %.2f times the time and %.2f times the peak memory" % (
             many.name, log.name, last.name, many.size / few.size, many.best / few.best, many.peak / few.peak))
+
+
+def over_log(word, runs, ours, check, others):
+    """Times a program, and others in turn, over one log. `ours` and each of `others(folder, log)` is a name and words;
+    `check` tests what ours wrote. Answers the log and the times of ours."""
+    with tempfile.TemporaryDirectory() as folder:
+        log = Log(folder, word)
+        one = Measured(ours[0], log.size)
+        rest = [(Measured(name, log.size), words) for name, words in others(folder, log)]
+        for _ in range(runs):
+            one.run(ours[1], folder)
+            check(written(folder), log)
+            for other, words in rest:
+                other.run(words, folder)
+        log.tell(runs)
+        one.tell()
+        for other, _ in rest:
+            other.tell()
+            tell_ratio(one, other)
+        return log, one

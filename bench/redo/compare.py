@@ -5,10 +5,9 @@ usage: compare.py REDO READER MIB:BLOCKS ..
 """
 import os
 import sys
-import tempfile
 
 sys.path.insert(0, os.path.join(os.path.dirname(os.path.abspath(__file__)), ".."))
-from measure import Log, Measured, tell_growth, tell_ratio, waldump_words, written
+from measure import over_log, tell_growth, waldump_words
 
 RUNS = 5
 
@@ -19,29 +18,15 @@ def check(text, log):
         sys.exit("the replay is not of the whole log: " + text)
 
 
-def measure(redo, reader, word):
-    """Times all three over one log. Answers the log and the replay's times."""
-    with tempfile.TemporaryDirectory() as folder:
-        log = Log(folder, word)
-        words = waldump_words(folder, log.start, log.end)
-        replayed, read, dumped = (Measured(name, log.size) for name in ("redo", "reader", "pg_waldump --quiet"))
-        for _ in range(RUNS):
-            replayed.run([redo, "replay"], folder)
-            check(written(folder), log)
-            read.run([reader, "read"], folder)
-            if words:
-                dumped.run(words, folder)
-        log.tell(RUNS)
-        replayed.tell()
-        for other in [read] + ([dumped] if words else []):
-            other.tell()
-            tell_ratio(replayed, other)
-        return log, replayed
-
-
 def main():
     redo, reader = (os.path.abspath(word) for word in sys.argv[1:3])
-    tell_growth([measure(redo, reader, word) for word in sys.argv[3:]])
+
+    def others(folder, log):
+        words = waldump_words(folder, log.start, log.end)
+        return [("reader", [reader, "read"])] + ([("pg_waldump --quiet", words)] if words else [])
+
+    ours = ("redo", [redo, "replay"])
+    tell_growth([over_log(word, RUNS, ours, check, others) for word in sys.argv[3:]])
 
 
 main()
