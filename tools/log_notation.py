@@ -17,6 +17,8 @@ Between semicolons stand items `POSITION RECORD`; the position may be left out, 
     switch      overwrite L    pad L     restore NAME
     record ..                  a record by its fields (record_notation.py)
     give-up N RECORD           the first N bytes of a record, up to a page's end, and a page that says so
+    linked L RECORD            a record that names L as the record before
+    for A..B ITEM              the item with each number from A to B in the place of `#`
     poke L HEX                 turns bytes that were written into others
     prelude                    running, checkpoint and backup-end as a log begins behind a backup
 
@@ -38,6 +40,17 @@ def numbers(words):
         first, _, last = word.partition("..")
         out += range(int(first), int(last or first) + 1)
     return out
+
+
+def repeated(items):
+    """The items, of which `for A..B ITEM` stands for one with each number in the place of `#`."""
+    for item in items:
+        match = re.match(r"for (\d+)\.\.(\d+) (.*)$", item)
+        if match is None:
+            yield item
+            continue
+        for number in range(int(match[1]), int(match[2]) + 1):
+            yield match[3].replace("#", str(number))
 
 
 class Log:
@@ -266,7 +279,7 @@ class Log:
         return pos(word) if "/" in word else self.base + int(word, 16)
 
     def play(self, items):
-        for item in items:
+        for item in repeated(items):
             match = re.match(r"([0-9A-F]+/[0-9A-F]+|[0-9A-F]+)(?:\s+(.*))?$", item)
             stated, text = (self.where(match[1]), match[2]) if match else (None, item)
             got = self.wal.at if text is None else self.item(text)
@@ -295,6 +308,10 @@ class Log:
     def read_poke(self, words):
         self.wal.poke(self.where(words.list[0]), bytes_of(words.list[1]))
         return self.where(words.list[0])
+
+    def read_linked(self, words):
+        self.wal.prev = self.where(words.list[0])
+        return self.item(words.text.split(None, 2)[2])
 
     def read_give_up(self, words):
         kept = copy.deepcopy(self.pages)

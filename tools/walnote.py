@@ -7,10 +7,13 @@ A notation is one of
     record ..; link L[; crc HEX][; first N]        (record_notation.py)
     header ..[; first N]
     log L after L [timeline N] [system N] [segments N] [length N]; ITEM; ..        (log_notation.py)
-    file N [timeline N] [system N] [segments N] [length N]; ITEM; ..
+    file N [from N] [timeline N] [system N] [segments N] [length N]; ITEM; ..
+    hex NOTATION
 
 `log` gives the bytes from a position on, whose first record is linked to the second position. `file` gives the
-first bytes of the file of segment N, in which the log begins right behind the first header. `crc` says which bits
+first bytes of the file of segment N, of a log that begins right behind the first header of that segment, or of the
+one that is named behind `from`. `hex` gives the bytes as a text: two digits a byte, parts between dots, each of
+which may be repeated, as `0a.00*31`. `crc` says which bits
 of the CRC are turned, and `first` how many bytes are kept.
 
 Notations stand in two places: as lines `NAME: NOTATION` in a file X.note, beside the folder X that has a file NAME
@@ -21,6 +24,7 @@ hex they make.
     walnote.py --write PATH..  makes the files and the hex of X.note files and files of cases
     walnote.py --check PATH..  names what is not as it is made, and ends with status 1 where anything is
 """
+import re
 import struct
 import sys
 from pathlib import Path
@@ -70,9 +74,21 @@ def file_bytes(first, items):
     """`file`: the first bytes of a segment's file."""
     more, length = log_of(first[2:])
     base = int(first[1]) * more["segsize"]
-    log = Log(base + 0x28, base - 0x68, base, **more)
+    begin = int(dict(zip(first[2::2], first[3::2])).get("from", first[1])) * more["segsize"]
+    log = Log(begin + 0x28, begin - 0x68, begin, **more)
     log.play(items)
     return log.wal.peek(base, align8(log.wal.at - base) if length is None else length)
+
+
+def runs(text):
+    """Bytes in hex, where a byte that stands at least eight times in a row is written once."""
+    out, at, plain = [], 0, ""
+    for run in re.finditer(rb"(.)\1{7,}", text, re.S):
+        plain = text[at:run.start()].hex()
+        out += [plain] * bool(plain) + ["%02x*%d" % (run[1][0], run.end() - run.start())]
+        at = run.end()
+    out += [text[at:].hex()] * (at < len(text))
+    return ".".join(out).encode()
 
 
 def made(notation):
@@ -81,6 +97,8 @@ def made(notation):
     words = first.split()
     if words[0] == "bytes":
         return bytes_of(words[1])
+    if words[0] == "hex":
+        return runs(made(notation.split(None, 1)[1]))
     if words[0] == "record":
         link = next(item.split()[1] for item in items if item.startswith("link "))
         return changed(encode(record_of(words[1:]), pos(link)), items)

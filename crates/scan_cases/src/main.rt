@@ -1,8 +1,9 @@
 //! Runs `scan t` over small logs, with all objects in memory, and prints each answer's status and text. The
-//! logs, in data/cases, are made by an independent assembler of log records, and what has to be printed, in
-//! the file stdout, was worked out by hand.
+//! logs, in data/cases, are made of their notation, in data/cases.note, by an assembler of log records that
+//! shares nothing with this product, and what has to be printed, in the file stdout, was worked out by hand.
 #![tactic(auto)]
 
+use case_text::{bytes, number_u32};
 use outside::{Archive, MemoryArchive, MemorySink, SteadyArchive, SteadySink};
 use standby_cli::standby_main;
 use std::alloc::{AllocError, Global};
@@ -85,13 +86,77 @@ const CASES: [&str; 71] = [
     "overwritten",
 ];
 
+/// Logs over several segments, and the numbers of the segments whose files are there.
+const SEGMENTED: [(&str, &[u8]); 4] = [
+    ("row_after_switch", &[2, 3]),
+    ("three_segments", &[2, 3, 4]),
+    ("segment_of_another_system", &[2, 3]),
+    ("segment_between_missing", &[2, 4]),
+];
+
 fn main(rt: HostRuntime) -> io::Result<()> {
     for name in CASES {
         let mut archive = archive_of(&rt, name)?;
         report(&rt, name, &["scan", "t"], &mut archive)?;
     }
+    for (name, segments) in SEGMENTED {
+        let mut archive = SteadyArchive::new(rt.alloc());
+        for segment in segments {
+            put_segment(&rt, name, *segment, &mut archive)?;
+        }
+        report(&rt, name, &["scan", "t"], &mut archive)?;
+    }
+    cut_at_segment_end(&rt)?;
     other_words(&rt)?;
     failures(&rt)
+}
+
+/// A record that begins 32 bytes before a segment's end, behind one that fills the rest of the segment, whose
+/// file is kept in hex.
+fn cut_at_segment_end(rt: &HostRuntime) -> io::Result<()> {
+    let name = "cut_at_segment_end";
+    let hex = fs::read_to_string(rt, "whole_segments/cut_at_segment_end.2")?;
+    let segment = segment_of(rt.alloc(), hex.as_str())?;
+    let mut archive = SteadyArchive::new(rt.alloc());
+    archive
+        .put(rt.alloc(), SEGMENT_FILE, segment.as_slice())
+        .map_err(|_| AllocError)?;
+    put_segment(rt, name, 3, &mut archive)?;
+    report(rt, name, &["scan", "t"], &mut archive)
+}
+
+/// The bytes of a whole segment, most of which are runs of zeros.
+fn segment_of(alloc: Global, hex: &str) -> io::Result<Vec<u8>> {
+    let mut out = Vec::new(alloc);
+    for part in hex.split('.') {
+        match part.strip_prefix("00*") {
+            Some(count) => {
+                let count = number_u32(count).map_err(|_| io::ErrorKind::InvalidData)?;
+                out.resize(out.len().saturating_add(count as usize), 0)?;
+            }
+            None => {
+                let part = bytes(alloc, part).map_err(|_| io::ErrorKind::InvalidData)?;
+                out.extend_from_slice(part.as_slice())?;
+            }
+        }
+    }
+    Ok(out)
+}
+
+/// Puts a segment of a case into the archive.
+fn put_segment(
+    rt: &HostRuntime,
+    name: &str,
+    segment: u8,
+    archive: &mut SteadyArchive,
+) -> io::Result<()> {
+    let path = format!(in rt.alloc(); "cases/{name}.{segment}")?;
+    let file = format!(in rt.alloc(); "00000001000000000000000{segment}")?;
+    let bytes = fs::read(rt, path.as_str())?;
+    archive
+        .put(rt.alloc(), file.as_str(), bytes.as_slice())
+        .map_err(|_| AllocError)?;
+    Ok(())
 }
 
 /// Words other than `scan t`, each over the log of a case.
