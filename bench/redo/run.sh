@@ -6,6 +6,6 @@ set -e
 here="$(cd "$(dirname "$0")" && pwd)"
 crates="$here/../../crates"
 (cd "$crates/bench_redo" && rt run >/dev/null)
-(cd "$crates/bench_reader" && rt run >/dev/null)
+(cd "$crates/bench_wal" && rt run >/dev/null)
 [ $# -gt 0 ] || set -- 32:3000 107:10000 256:24000 320:30000
-exec python3 -B "$here/compare.py" "$crates/bench_redo/out/bench_redo" "$crates/bench_reader/out/bench_reader" "$@"
+exec python3 -B "$here/compare.py" "$crates/bench_redo/out/bench_redo" "$crates/bench_wal/out/bench_wal" "$@"

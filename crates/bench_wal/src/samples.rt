@@ -1,6 +1,5 @@
-//! The records that the benchmarks read: XLOG noops and heap inserts, some with a page image, in a
-//! fixed mix of about 200 bytes a record.
-#![tactic(auto)]
+//! The records that these benchmarks read: XLOG noops and heap inserts, some with a page image, in a fixed mix
+//! of about 200 bytes a record.
 
 ghost use Rattle.std.specs.Prelude.{◌≡◌, ◌<◌, ◌≤◌, ◌^◌, IfOk, IfSome, IsTrue, length};
 ghost use Rattle.wal_record.specs.New.{IsNew, is_page_image};

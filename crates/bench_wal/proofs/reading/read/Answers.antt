@@ -1,7 +1,7 @@
 use Rattle.std.proofs.Common.{refl}
 use Rattle.pg_types.specs.SegmentSizes.{sixteen_mebibytes}
 use Rattle.wal_page.specs.Page.{is_segment_size}
-use Rattle.bench_reader.proofs.reading.read.Goals as goal
+use Rattle.bench_wal.proofs.reading.read.Goals as goal
 
 pub plain-log-requires : goal.plain-log-requires
 plain-log-requires c = sixteen_mebibytes

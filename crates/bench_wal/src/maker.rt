@@ -1,9 +1,9 @@
 ghost use Rattle.std.specs.Prelude.{◌≡◌, ◌+◌, ◌*◌, ◌<◌, ◌≤◌, ◌^◌, length, vec_len};
 ghost use Rattle.wal_page.specs.Page.{HasInfo};
 
+use crate::samples::append;
 use crate::{SEGMENT, START, SYSTEM};
 use anyhow::Result;
-use bench_samples::append;
 use pg_types::{Lsn, SegmentName, Tli};
 use std::fs;
 use wal_page::{PageHead, write_page_header};

@@ -1,15 +1,16 @@
-//! Times `decode` over so many MiB of records that `encode` wrote, beside the CRC-32C and a copy of the
-//! same bytes in the same run. A person runs it, by bench/records/run.sh; with no number it tells how.
-#![tactic(auto)]
+//! Times `decode` over so many MiB of records that `encode` wrote, beside the CRC-32C, record by record and over
+//! one piece again and again, and a copy of the same bytes in the same run.
 
+use crate::samples::append;
 use anyhow::Result;
-use bench_samples::append;
 use pg_crc32c::crc32c;
 use pg_types::{Lsn, u32_at};
 use std::alloc::Global;
-use std::env;
 use std::time::{Duration, Instant};
 use wal_record::{PrevRule, decode};
+
+/// The bytes of the piece whose CRC is computed again and again.
+const PIECE: usize = 1 << 20;
 
 /// How many records were read, and a number that all of them have a part in, so that none is left out.
 #[derive(Clone, Copy)]
@@ -110,7 +111,19 @@ fn copy_over(from: &[u8], to: &mut [u8]) {
     }
 }
 
-fn measure(rt: &HostRuntime, bytes: usize) -> Result<()> {
+/// The CRC-32C of the first MiB, again and again, as often as there are whole MiB.
+fn check_piece(text: &[u8]) -> u32 {
+    let piece = text.chunks(PIECE).next().unwrap_or(&[]);
+    let mut state = [0_u8; 4];
+    for _ in text.chunks(PIECE) {
+        state = crc32c(piece, &state).to_le_bytes();
+    }
+    u32::from_le_bytes(state)
+}
+
+/// Makes so many MiB of records, and prints how fast each of these reads them.
+pub fn measure(rt: &HostRuntime, mebibytes: u16) -> Result<()> {
+    let bytes = usize::from(mebibytes) << 20;
     let begun = Instant::now(rt)?;
     let text = make(rt.alloc(), bytes)?;
     let made = speed(text.len(), begun.elapsed(rt)?);
@@ -126,7 +139,11 @@ fn measure(rt: &HostRuntime, bytes: usize) -> Result<()> {
     let decoded = decode_each(copy.as_slice());
     let took = begun.elapsed(rt)?;
     let read = speed(text.len(), took);
+    let begun = Instant::now(rt)?;
+    let last = check_piece(copy.as_slice());
+    let pieces = speed(text.len(), begun.elapsed(rt)?);
     println!(rt; "encode {made} MB/s, crc32c {crc} MB/s, decode {read} MB/s, copy {copied} MB/s")?;
+    println!(rt; "crc32c of one piece {pieces} MB/s (the last CRC is {last:08x})")?;
     ratios(rt, read, crc, copied)?;
     told(rt, checked, decoded, took)
 }
@@ -161,19 +178,4 @@ fn told(rt: &HostRuntime, checked: Tally, decoded: Tally, took: Duration) -> Res
     let mark = checked.mark ^ decoded.mark;
     println!(rt; "{good} of {all} records decoded, {in_a_second} a second (mark {mark:x})")?;
     Ok(())
-}
-
-fn main(rt: HostRuntime) -> Result<()> {
-    let count = env::args(&rt)?.nth(1);
-    let mebibytes = match &count {
-        Some(text) => text.as_str().parse::<u16>().ok(),
-        None => None,
-    };
-    match mebibytes {
-        Some(mebibytes) => measure(&rt, usize::from(mebibytes) << 20),
-        None => {
-            println!(rt; "usage: bench_records MIB")?;
-            Ok(())
-        }
-    }
 }
