@@ -31,7 +31,7 @@ def check_handles():
 def check_crates():
     listed = crates()
     folders = {p.name for p in (TOP / "crates").iterdir() if p.is_dir()}
-    readme = (TOP / "README.md").read_text()
+    readme = (TOP / "README.md").read_text() + (TOP / "docs/CONTRACTS.md").read_text()
     for name in sorted(set(listed) ^ folders):
         wrong.append(f"crates/{name} and crates.txt do not agree")
     for name in sorted(listed):
@@ -40,11 +40,11 @@ def check_crates():
         if source is None or "#![tactic(auto)]" not in source.read_text():
             wrong.append(f"{name} has no root file with #![tactic(auto)]")
         if not re.search(rf"\b{name}\b", readme):
-            wrong.append(f"README.md does not speak of {name}")
+            wrong.append(f"neither README.md nor docs/CONTRACTS.md speaks of {name}")
 
 
 def check_links():
-    for page in [TOP / "README.md", *sorted((TOP / "docs").rglob("*.md"))]:
+    for page in [*sorted(TOP.glob("*.md")), *sorted((TOP / "docs").rglob("*.md")), *sorted((TOP / "examples").rglob("*.md"))]:
         for target in re.findall(r"\]\(([^)#:]+)(?:#[^)]*)?\)", page.read_text()):
             if not (page.parent / target).exists():
                 wrong.append(f"{page.relative_to(TOP)} points to {target}, which is not there")

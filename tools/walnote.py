@@ -4,7 +4,7 @@
 A notation is one of
 
     bytes HEX
-    record ..; link L[; crc HEX][; first N]        (record_notation.py)
+    record ..; link L[; crc HEX][; byte N HEX][; first N][; then HEX]        (record_notation.py)
     header ..[; first N]
     log L after L [timeline N] [system N] [segments N] [length N]; ITEM; ..        (log_notation.py)
     file N [from N] [timeline N] [system N] [segments N] [length N]; ITEM; ..
@@ -13,8 +13,8 @@ A notation is one of
 `log` gives the bytes from a position on, whose first record is linked to the second position. `file` gives the
 first bytes of the file of segment N, of a log that begins right behind the first header of that segment, or of the
 one that is named behind `from`. `hex` gives the bytes as a text: two digits a byte, parts between dots, each of
-which may be repeated, as `0a.00*31`. `crc` says which bits
-of the CRC are turned, and `first` how many bytes are kept.
+which may be repeated, as `0a.00*31`. `crc` says which bits of the CRC are turned, `byte` which byte is changed,
+`first` how many bytes are kept, and `then` what follows.
 
 Notations stand in two places: as lines `NAME: NOTATION` in a file X.note, beside the folder X that has a file NAME
 for each, and go on in lines that begin with four spaces; and in a line of cases as `CASE | NOTATION | HEX`, whose
@@ -41,13 +41,18 @@ def turned(text, bits):
 
 
 def changed(text, items):
-    """What `crc` and `first` leave of the bytes."""
+    """What the changes leave of the bytes."""
     for item in items:
-        name, value = item.split()
+        name, *values = item.split()
         if name == "crc":
-            text = turned(text, value)
+            text = turned(text, values[0])
+        elif name == "byte":
+            place = int(values[0])
+            text = text[:place] + bytes_of(values[1]) + text[place + 1:]
         elif name == "first":
-            text = text[:int(value)]
+            text = text[:int(values[0])]
+        elif name == "then":
+            text += bytes_of(values[0])
         elif name != "link":
             raise ValueError("unknown change: " + item)
     return text
@@ -126,7 +131,13 @@ def notes(path):
 
 
 def hex_of(text):
-    return text.hex() or "-"
+    """Bytes in hex, and more than 32 equal ones as `07*256`."""
+    parts, at = [""], 0
+    for match in re.finditer(rb"(.)\1{32,}", text, re.DOTALL):
+        parts += [text[at:match.start()].hex(), "%02x*%d" % (match[1][0], len(match[0]))]
+        at = match.end()
+    parts.append(text[at:].hex())
+    return ".".join(part for part in parts if part) or "-"
 
 
 def cases(path):

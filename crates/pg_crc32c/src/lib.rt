@@ -75,37 +75,3 @@ fn after_word(word: u64) -> u32
         ^ tables::entry_7((word >> 8) as usize % 256)
         ^ tables::entry_8(word as usize % 256)
 }
-
-#[cfg(test)]
-mod tests {
-    use super::*;
-    use std::test::Fail;
-
-    /// The check value of the catalogue of CRC algorithms, and the vectors of RFC 3720, appendix B.4.
-    #[test]
-    fn published_vectors(rt: HostRuntime) -> Result<(), Fail> {
-        let rising: [u8; 32] = [
-            0, 1, 2, 3, 4, 5, 6, 7, 8, 9, 10, 11, 12, 13, 14, 15, 16, 17, 18, 19, 20, 21, 22, 23,
-            24, 25, 26, 27, 28, 29, 30, 31,
-        ];
-        assert_eq!(rt; crc32c(b"", b""), 0);
-        assert_eq!(rt; crc32c(b"123456789", b""), 0xE306_9283);
-        assert_eq!(rt; crc32c(&[0; 32], b""), 0x8A91_36AA);
-        assert_eq!(rt; crc32c(&[0xff; 32], b""), 0x62A8_AB43);
-        assert_eq!(rt; crc32c(&rising, b""), 0x46DD_794E);
-        Ok(())
-    }
-
-    #[test]
-    fn a_split_anywhere_is_the_same_text(rt: HostRuntime) -> Result<(), Fail> {
-        let text = b"123456789";
-        for at in 0..10 {
-            assert_eq!(rt;
-                crc32c(&text[..at], &text[at..]),
-                0xE306_9283,
-                "split at {at}"
-            );
-        }
-        Ok(())
-    }
-}

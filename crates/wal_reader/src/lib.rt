@@ -12,6 +12,3 @@ mod window;
 pub use laws::one_log;
 pub use reader::Reader;
 pub use types::{EndWhy, Halt, Next, ReadFault, Stop};
-
-#[cfg(test)]
-mod tests;

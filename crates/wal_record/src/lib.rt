@@ -17,6 +17,3 @@ pub use laws::{encoded_is_read, read_is_spelled, spelled_is_read};
 pub use new::{NewBlock, NewBlocks, NewImage, NewRecord};
 pub use types::{BlockView, ImageView, PrevRule, RecordFault, RecordHead};
 pub use view::{RecordView, decode, lend};
-
-#[cfg(test)]
-mod tests;

@@ -1,5 +1,0 @@
-use Rattle.pg_types.specs.SegmentSizes.{one_mebibyte}
-use Rattle.wal_archive.proofs.tests.fails.Goals as goal
-
-pub plain-log-requires : goal.plain-log-requires
-plain-log-requires g c = one_mebibyte
