@@ -1,16 +1,16 @@
 -- Rising lists of ids as sets: two with the same members are one.
-use Rattle.std.proofs.Common.{◌≡◌, ◌<◌, ◌+◌, ℕ, Bool, true, false, ◌&&◌, ◌||◌, cond, nat_eq, nat_lt, refl, sym, ap, ◌∙◌, subst, inl, inr, arith, List, [], ◌∷◌, map}
+use Rattle.std.proofs.Common.{◌≡◌, ◌<◌, ◌≤◌, ◌+◌, ℕ, suc, length, Bool, true, false, ◌&&◌, ◌||◌, cond, nat_eq, nat_lt, refl, sym, ap, ◌∙◌, subst, inl, inr, arith, List, [], ◌∷◌, map}
 use Rattle.std.specs.List.{list_all, sum_by}
 use Rattle.std.specs.List.Sorted.{IsPermutation}
 use Rattle.std.proofs.lemmas.Bool.{and_parts, and_from, both_ways, ltb-true, lt-ltb, le-ltb, eq-eqb, ne_eqb, cases_order, cases_Bool, eqb-true}
-use Rattle.std.proofs.lemmas.List.Sorted.{sum_by-IsPermutation}
+use Rattle.std.proofs.lemmas.List.Sorted.{length_permutation, sum_by-IsPermutation}
 use Rattle.std.proofs.lemmas.List.Sums.{sum_by-cons}
 use Rattle.pg_types.specs.declared.names.Xid.{Xid}
 use Rattle.known_assigned.specs.declared.running_set.Slot.{Slot}
 use Rattle.known_assigned.specs.Ids.{is_among, numbers, with_id, with_ids}
 use Rattle.known_assigned.specs.Slots.{is_rising, live_ids}
 use Rattle.known_assigned.proofs.Ordered.{is_among-none, is_among-with_id, list_all-weaker, others-above}
-use Rattle.known_assigned.proofs.Slotted.{above, list_all-live_ids}
+use Rattle.known_assigned.proofs.Slotted.{above, length-live_ids_of, list_all-live_ids}
 
 -- whether each id is below all later ones
 abbrev pub ordered : List ℕ → Bool
@@ -166,3 +166,31 @@ placed xids = map (λ (x : Xid). record { xid = x.0; live = true }) xids
 pub live_ids-placed : (xids : List Xid) → live_ids (placed xids) ≡ numbers xids
 live_ids-placed [] = refl
 live_ids-placed (x ∷ xids) = ap (λ l. x.0 ∷ l) (live_ids-placed xids)
+
+-- places that are all live stay so in another order
+abbrev one_each : Slot → ℕ
+one_each s = cond s.live 1 0
+
+length-live_ids_sum : (slots : List Slot) → length (live_ids slots) ≡ sum_by one_each slots
+length-live_ids_sum [] = refl
+length-live_ids_sum (s ∷ rest) =
+    length-live_ids_of s rest ∙ ap (λ n. cond s.live 1 0 + n) (length-live_ids_sum rest) ∙ sym (sum_by-cons one_each s rest)
+
+pub length-live_ids_sorted : (slots sorted : List Slot) → IsPermutation slots sorted → length (live_ids sorted) ≡ length (live_ids slots)
+length-live_ids_sorted slots sorted moved =
+    length-live_ids_sum sorted ∙ sum_by-IsPermutation one_each slots sorted moved ∙ sym (length-live_ids_sum slots)
+
+pub length-live_ids_placed : (xids : List Xid) → length (live_ids (placed xids)) ≡ length (placed xids)
+length-live_ids_placed [] = refl
+length-live_ids_placed (x ∷ xids) = ap suc (length-live_ids_placed xids)
+
+pub live-all : (slots sorted : List Slot) (xids : List Xid) → IsPermutation slots sorted → slots ≡ placed xids → length sorted ≤ length (live_ids sorted)
+live-all slots sorted xids moved all =
+    omega (
+      arith,
+      length_permutation slots sorted moved,
+      length-live_ids_sorted slots sorted moved,
+      ap (λ (l : List Slot). length l) all,
+      ap (λ (l : List Slot). length (live_ids l)) all,
+      length-live_ids_placed xids,
+    )

@@ -3,8 +3,8 @@ use Rattle.std.proofs.Common.{◌-◌, min, ◌||◌, Some, length-set, ◌≡�
 use Rattle.std.specs.List.Sorted.{IsStrictlyIncreasing}
 use Rattle.std.specs.List.{list_all, filter, insert, slice_get}
 use Rattle.std.proofs.lemmas.List.Edits.{length-insert}
-use Rattle.std.proofs.lemmas.Bool.{cases_lt, and_parts, and_from, ltb-true, lt-ltb, leb-true, le-leb, lt-leb, eq-eqb, cases_Bool}
-use Rattle.std.proofs.lemmas.List.{take-append-drop, drop_all, get_or_default, append-nil, take_all, get_or-take, length-take-le}
+use Rattle.std.proofs.lemmas.Bool.{both_ways, cases_lt, and_parts, and_from, ltb-true, lt-ltb, leb-true, le-leb, lt-leb, eq-eqb, cases_Bool}
+use Rattle.std.proofs.lemmas.List.{length-append, take-append-drop, drop_all, get_or_default, append-nil, take_all, get_or-take, length-take-le}
 use Rattle.std.proofs.lemmas.List.Elements.{filter-append}
 use Rattle.std.proofs.lemmas.List.Folds.{list_all-append, list_any-append}
 use Rattle.std.proofs.Math.Seq.{drop-cons, take-suc, take-suc-set}
@@ -486,3 +486,56 @@ rising-next slots i some within h up =
     ap (λ n. is_rising (take n slots)) next
     ∙ ap is_rising (take-suc slots i no_slot within)
     ∙ is_rising-between front [] v low_front refl (ap is_rising (append-nil front) ∙ h)
+
+-- how many ids have not ended, after a place is written or put in, and without the marked places
+pub length-live_ids_of : (s : Slot) (rest : List Slot) → length (live_ids (s ∷ rest)) ≡ cond s.live 1 0 + length (live_ids rest)
+length-live_ids_of s rest =
+    elim s.live as (λ l. length (cond l (s.xid ∷ live_ids rest) (live_ids rest)) ≡ cond l 1 0 + length (live_ids rest))
+    [ true ↦ omega arith | false ↦ omega arith ]
+
+one-at_most : (b : Bool) → cond b 1 0 ≤ 1
+one-at_most true = omega arith
+one-at_most false = omega arith
+
+one-of : (b : Bool) → b ≡ true → 1 ≤ cond b 1 0
+one-of true e = omega arith
+one-of false e = absurd (both_ways false refl e)
+
+length-live_ids_across : (a b : List Slot) (s : Slot) → length (live_ids (a ++ (s ∷ b))) ≡ cond s.live 1 0 + length (live_ids (a ++ b))
+length-live_ids_across a b s =
+    let left : length (live_ids (a ++ (s ∷ b))) ≡ length (live_ids a) + length (live_ids (s ∷ b)) =
+    ap length (live_ids-append a (s ∷ b)) ∙ length-append (live_ids a) (live_ids (s ∷ b)) in
+    let right : length (live_ids (a ++ b)) ≡ length (live_ids a) + length (live_ids b) =
+    ap length (live_ids-append a b) ∙ length-append (live_ids a) (live_ids b) in
+    omega (arith, left, right, length-live_ids_of s b)
+
+pub length-live_ids_set : (slots : List Slot) (at : ℕ) (v : Slot) → at < length slots
+    → length (live_ids (set slots at v)) + cond (get_or slots at no_slot).live 1 0 ≡ length (live_ids slots) + cond v.live 1 0
+length-live_ids_set slots at v within =
+    let a = take at slots in
+    let b = drop (suc at) slots in
+    let new : length (live_ids (set slots at v)) ≡ cond v.live 1 0 + length (live_ids (a ++ b)) =
+    ap (λ l. length (live_ids l)) (set_split slots at v within) ∙ length-live_ids_across a b v in
+    let old : length (live_ids slots) ≡ cond (get_or slots at no_slot).live 1 0 + length (live_ids (a ++ b)) =
+    ap (λ l. length (live_ids l)) (split_at slots at no_slot within) ∙ length-live_ids_across a b (get_or slots at no_slot) in
+    omega (arith, new, old)
+
+-- a mark takes at most one, and a live place takes none
+pub few-marked : (slots : List Slot) (at : ℕ) (v : Slot) → at < length slots → length (live_ids slots) ≤ length (live_ids (set slots at v)) + 1
+few-marked slots at v within =
+    omega (arith, length-live_ids_set slots at v within, one-at_most (get_or slots at no_slot).live)
+
+pub few-revived : (slots : List Slot) (at : ℕ) (v : Slot) → at < length slots → v.live ≡ true → length (live_ids slots) ≤ length (live_ids (set slots at v))
+few-revived slots at v within lives =
+    omega (arith, length-live_ids_set slots at v within, one-at_most (get_or slots at no_slot).live, one-of v.live lives)
+
+pub length-live_ids_inserted : (slots : List Slot) (at x : ℕ) → length (live_ids (insert slots at (record { xid = x; live = true }))) ≡ 1 + length (live_ids slots)
+length-live_ids_inserted slots at x =
+    length-live_ids_across (take at slots) (drop at slots) (record { xid = x; live = true })
+    ∙ ap (λ l. 1 + length (live_ids l)) (take-append-drop at slots)
+
+pub length-kept : (slots : List Slot) → length (filter (λ (s : Slot). s.live) slots) ≡ length (live_ids slots)
+length-kept [] = refl
+length-kept (s ∷ rest) =
+    elim s.live as (λ l. length (cond l (s ∷ filter (λ (t : Slot). t.live) rest) (filter (λ (t : Slot). t.live) rest)) ≡ length (cond l (s.xid ∷ live_ids rest) (live_ids rest)))
+    [ true ↦ ap suc (length-kept rest) | false ↦ length-kept rest ]

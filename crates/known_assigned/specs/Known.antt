@@ -1,6 +1,6 @@
 -- The transactions that run on the primary, as a standby knows them from the log, and what each kind of
 -- record does to them (PostgreSQL's procarray.c, "KnownAssignedXids").
-use Rattle.std.specs.Prelude.{ℕ, ◌-◌, Bool, true, false, ◌&&◌, List, [], ◌∷◌, filter, length, max, nat_le, nat_lt, if◌then◌else◌}
+use Rattle.std.specs.Prelude.{ℕ, ◌+◌, ◌*◌, ◌-◌, ◌≤◌, Bool, true, false, ◌&&◌, List, [], ◌∷◌, filter, length, max, nat_le, nat_lt, if◌then◌else◌}
 use Rattle.known_assigned.specs.declared.state.State.{State}
 use Rattle.known_assigned.specs.declared.state.State.TheVariants.{Initialized, Pending, Ready}
 use Rattle.known_assigned.specs.declared.state.RunningHead.{RunningHead}
@@ -19,10 +19,17 @@ pub record Known : Type 0 where
   -- how far the standby is on the way to a snapshot (standbyState)
   pub mode : State
 
--- what contracts see: what is known, and how many more ids fit without taking memory
+-- what contracts see: what is known, how many more ids fit without taking memory, and how many places
+-- are taken, by a known id or by the mark of one that ended
 pub record Tracked : Type 0 where
   pub known : Known
   pub spare : ℕ
+  pub taken : ℕ
+
+-- at most as many places as there are known ids, and 64 more, are left marked
+-- (KnownAssignedXidsCompress)
+abbrev pub IsPacked : Tracked → Type 0
+IsPacked t = t.taken ≤ 2 * length t.known.xids + 64
 
 -- before the first record
 abbrev pub nothing_known : Known

@@ -1,12 +1,14 @@
 -- The set of running ids as it lies in memory: places in rising order, of which some have ended.
-use Rattle.std.specs.Prelude.{◌≡◌, ℕ, ◌≤◌, ◌<◌, Bool, true, false, ◌&&◌, List, [], ◌∷◌, length, take, drop, nat_lt, slice_index_or, if◌then◌else◌}
+use Rattle.std.specs.Prelude.{◌≡◌, ℕ, ◌+◌, ◌≤◌, ◌<◌, Bool, true, false, ◌&&◌, List, [], ◌∷◌, length, take, drop, nat_lt, slice_index_or, if◌then◌else◌}
 use Rattle.std.specs.List.{list_all}
 use Rattle.known_assigned.specs.declared.running_set.Slot.{Slot}
 
--- what contracts see of the places: the ids that have not ended, and how many more fit
+-- what contracts see of the places: the ids that have not ended, how many more fit, and how many places
+-- are taken, by an id or a mark
 pub record Places : Type 0 where
   pub xids : List ℕ
   pub spare : ℕ
+  pub taken : ℕ
 
 -- the ids that have not ended
 abbrev pub live_ids : List Slot → List ℕ
@@ -29,6 +31,11 @@ pub record InOrder (slots : List Slot) (first : ℕ) : Type 0 where
   pub within : first ≤ length slots
   pub ended : live_ids (take first slots) ≡ []
   pub led : is_led (drop first slots) ≡ true
+
+-- and no more than `marked` of them have ended
+pub record AreCounted (slots : List Slot) (first marked : ℕ) : Type 0 where
+  pub order : InOrder slots first
+  pub few : length slots ≤ length (live_ids slots) + marked
 
 -- the place of the id x
 pub record AtPlace (slots : List Slot) (at x : ℕ) : Type 0 where

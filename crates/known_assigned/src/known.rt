@@ -3,7 +3,7 @@ ghost use Rattle.std.specs.List.{All};
 ghost use Rattle.std.specs.List.Sorted.{IsStrictlyIncreasing};
 ghost use Rattle.std.specs.Option.{option_map};
 ghost use Rattle.known_assigned.specs.Ids.{greatest, numbers};
-ghost use Rattle.known_assigned.specs.Known.{after_assign, after_end, after_observe, after_running, after_shutdown, count_added, made_anew, nothing_known, overflows, past_oldest};
+ghost use Rattle.known_assigned.specs.Known.{IsPacked, after_assign, after_end, after_observe, after_running, after_shutdown, count_added, made_anew, nothing_known, overflows, past_oldest};
 
 use crate::running_set::RunningSet;
 use crate::state::{RunningHead, State};
@@ -31,7 +31,7 @@ impl Model for KnownAssigned {
 
     ghost Value = { Tracked };
 
-    ghost view = { λ k. record { known = record { xids = k.running.xids; latest = k.latest; observed = k.observed; overflowed = k.overflowed; mode = k.state }; spare = k.running.spare } };
+    ghost view = { λ k. record { known = record { xids = k.running.xids; latest = k.latest; observed = k.observed; overflowed = k.overflowed; mode = k.state }; spare = k.running.spare; taken = k.running.taken } };
 
     ghost invariant = { λ k. k.latest ≤ 2 ^ 63 + 2 ^ 32 };
 }
@@ -41,6 +41,7 @@ impl KnownAssigned {
     pub fn new(alloc: Global) -> KnownAssigned
         ensures known { result.known ≡ nothing_known }
         ensures spare { result.spare ≡ 0 }
+        ensures packed { IsPacked result }
     {
         KnownAssigned {
             running: RunningSet::new(alloc),
@@ -70,8 +71,11 @@ impl KnownAssigned {
         ensures room { OnOk result (more ≤ self.new.spare) }
         ensures short { OnErr result (self.old.spare < more) }
         ensures kept { self.old.spare ≤ self.new.spare }
+        ensures packed { IsPacked self.new }
     {
-        self.running.reserve(more as usize)
+        let reserved = self.running.reserve(more as usize);
+        self.running.pack();
+        reserved
     }
 
     /// A record names `xid`: all ids up to it are assigned (`RecordKnownAssignedTransactionIds`). It
@@ -81,12 +85,14 @@ impl KnownAssigned {
         requires { count_added self.old.known xid.0 ≤ self.old.spare }
         ensures known { self.new.known ≡ after_observe self.old.known xid.0 }
         ensures spare { self.old.spare ≤ self.new.spare + count_added self.old.known xid.0 }
+        ensures packed { IsPacked self.new }
     {
         match self.state {
             State::Initialized => {}
             _ => self.running.add_range(self.observed, xid.0),
         }
         self.observed = self.observed.max(xid.0);
+        self.running.pack();
     }
 
     /// The transaction and its subtransactions have ended (`ExpireTreeKnownAssignedTransactionIds`).
@@ -97,10 +103,12 @@ impl KnownAssigned {
         requires top { xid.0 ≤ 2 ^ 63 + 2 ^ 32 }
         requires listed { All (λ (x : Xid). x.0 ≤ 2 ^ 63 + 2 ^ 32) subs.now }
         ensures known { self.new.known ≡ after_end self.old.known (xid.0 ∷ numbers subs.now) }
-        ensures spare { self.new.spare ≡ self.old.spare }
+        ensures spare { self.old.spare ≤ self.new.spare }
+        ensures packed { IsPacked self.new }
     {
         self.running.remove(xid.0);
         self.running.remove_listed(subs);
+        self.running.pack();
         self.latest = greatest_of(self.latest, xid.0, subs);
     }
 
@@ -109,7 +117,8 @@ impl KnownAssigned {
     #[tactic(auto, unfolding(crate::specs::Known::after_assign))]
     pub fn assign(&mut self, top: Xid, subs: &[Xid])
         ensures known { self.new.known ≡ after_assign self.old.known top.0 (numbers subs.now) }
-        ensures spare { self.new.spare ≡ self.old.spare }
+        ensures spare { self.old.spare ≤ self.new.spare }
+        ensures packed { IsPacked self.new }
     {
         match self.state {
             State::Initialized => {}
@@ -118,6 +127,7 @@ impl KnownAssigned {
                 self.overflowed = greatest_of(self.overflowed, top.0, subs);
             }
         }
+        self.running.pack();
     }
 
     /// A running record (`ProcArrayApplyRecoveryInfo`): `live` are the listed ids that have not ended,
@@ -132,6 +142,7 @@ impl KnownAssigned {
         requires ended { ended.0 ≤ 2 ^ 63 + 2 ^ 32 }
         ensures known { self.new.known ≡ after_running self.old.known head.now (numbers live.now) ended.0 }
         ensures spare { self.old.spare ≤ self.new.spare + length live.now }
+        ensures packed { IsPacked self.new }
     {
         match self.state {
             State::Ready => self.pass_oldest(head.oldest.0),
@@ -151,6 +162,7 @@ impl KnownAssigned {
         requires { next.0 ≤ 2 ^ 63 + 2 ^ 32 }
         ensures known { self.new.known ≡ after_shutdown self.old.known next.0 }
         ensures spare { self.old.spare ≤ self.new.spare }
+        ensures packed { IsPacked self.new }
     {
         let ended = next.0.saturating_sub(1);
         self.running.clear();
@@ -164,10 +176,12 @@ impl KnownAssigned {
     fn pass_oldest(&mut self, oldest: u64)
         requires { oldest ≤ 2 ^ 63 + 2 ^ 32 }
         ensures known { self.new.known ≡ past_oldest self.old.known oldest }
-        ensures spare { self.new.spare ≡ self.old.spare }
+        ensures spare { self.old.spare ≤ self.new.spare }
+        ensures packed { IsPacked self.new }
     {
         let ended = oldest.saturating_sub(1);
         self.running.remove_below(oldest);
+        self.running.pack();
         self.latest = self.latest.max(ended);
         self.observed = self.observed.max(ended);
     }
@@ -181,10 +195,12 @@ impl KnownAssigned {
         requires ended { ended.0 ≤ 2 ^ 63 + 2 ^ 32 }
         ensures known { self.new.known ≡ made_anew (past_oldest self.old.known head.now.oldest.0) head.now (numbers live.now) ended.0 }
         ensures spare { self.old.spare ≤ self.new.spare + length live.now }
+        ensures packed { IsPacked self.new }
     {
         let before = head.oldest.0.saturating_sub(1);
         let last = head.next.0.saturating_sub(1);
         self.running.replace(live);
+        self.running.pack();
         self.latest = self.latest.max(before).max(head.latest.0).max(ended.0);
         self.observed = self.observed.max(before).max(last);
         if is_overflowed(head) {

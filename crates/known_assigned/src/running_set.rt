@@ -1,9 +1,9 @@
-ghost use Rattle.std.specs.Prelude.{◌≡◌, ◌≢◌, ℕ, ◌+◌, ◌-◌, ◌≤◌, ◌<◌, not, true, false, if◌then◌else◌, IfErr, IfOk, OnErr, OnOk, [], ◌∷◌, ◌++◌, filter, length, nat_le, nat_lt, slice_get, take, drop, vec_capacity, vec_len};
+ghost use Rattle.std.specs.Prelude.{◌≡◌, ◌≢◌, ℕ, ◌+◌, ◌*◌, ◌-◌, ◌≤◌, ◌<◌, not, true, false, if◌then◌else◌, IfErr, IfOk, OnErr, OnOk, [], ◌∷◌, ◌++◌, filter, length, nat_le, nat_lt, slice_get, take, drop, vec_capacity, vec_len};
 ghost use Rattle.std.specs.Bool.{OnFalse, OnTrue};
 ghost use Rattle.std.specs.List.{list_all};
 ghost use Rattle.std.specs.List.Sorted.{IsStrictlyIncreasing};
 ghost use Rattle.known_assigned.specs.Ids.{ids_above, is_among, minus, numbers, with_id, with_ids, without};
-ghost use Rattle.known_assigned.specs.Slots.{AtPlace, InOrder, NoPlace, is_led, is_rising, live_ids};
+ghost use Rattle.known_assigned.specs.Slots.{AreCounted, AtPlace, InOrder, NoPlace, is_led, is_rising, live_ids};
 
 use pg_types::{NoMemory, Xid, XidList};
 use std::alloc::Global;
@@ -18,31 +18,31 @@ pub(crate) struct Slot {
 
 /// A set of ids in places that rise, as `KnownAssignedXids` of procarray.c is: new ids go to the end,
 /// an id that ends is found by halving and only marked, and the marked ones at the low end are passed
-/// over once. Contracts see the ids in rising order and how many more places there are.
+/// over once. Contracts see the ids in rising order, how many more places there are, and how many are
+/// taken, by an id or a mark.
 #[derive(Debug, Drop)]
 pub(crate) struct RunningSet {
     slots: Vec<Slot>,
     /// The place of the least id that has not ended.
     first: usize,
-    /// How many places were marked since the marked ones were given up, which only decides when they
-    /// are given up again.
+    /// No more places than these are marked.
     marked: usize,
 }
 
 impl Model for RunningSet {
     ghost use Rattle.std.specs.Prelude.{◌-◌, vec_capacity, vec_len};
-    ghost use Rattle.known_assigned.specs.Slots.{InOrder, Places, live_ids};
+    ghost use Rattle.known_assigned.specs.Slots.{AreCounted, Places, live_ids};
 
     ghost Value = { Places };
 
-    ghost view = { λ s. record { xids = live_ids s.slots.items; spare = vec_capacity s.slots - vec_len s.slots } };
+    ghost view = { λ s. record { xids = live_ids s.slots.items; spare = vec_capacity s.slots - vec_len s.slots; taken = vec_len s.slots } };
 
-    ghost invariant = { λ s. InOrder s.slots.items s.first };
+    ghost invariant = { λ s. AreCounted s.slots.items s.first s.marked };
 }
 
 impl RunningSet {
     pub(crate) fn new(alloc: Global) -> RunningSet
-        ensures { result ≡ record { xids = []; spare = 0 } }
+        ensures { result ≡ record { xids = []; spare = 0; taken = 0 } }
     {
         RunningSet {
             slots: Vec::new(alloc),
@@ -51,16 +51,16 @@ impl RunningSet {
         }
     }
 
-    /// Makes room for so many ids. The marked places are given up where there is no room, or where they
-    /// are as many as the others; where there is still none, the memory grows so that as many ids as
-    /// there are fit once more. So a place is moved once for each id that was added or ended, on average.
+    /// Makes room for so many ids. The marked places are given up where there is no room; where there is
+    /// still none, the memory grows so that as many ids as there are fit once more. So a place is moved
+    /// once for each id that was added or ended, on average.
     pub(crate) fn reserve(&mut self, more: usize) -> Result<(), NoMemory>
         ensures xids { self.new.xids ≡ self.old.xids }
         ensures ok { OnOk result (more ≤ self.new.spare) }
         ensures short { OnErr result (self.old.spare < more) }
         ensures kept { self.old.spare ≤ self.new.spare }
     {
-        if self.room() < more || self.marked > self.slots.len() / 2 {
+        if self.room() < more {
             self.give_up_marked();
         }
         if self.room() < more {
@@ -77,10 +77,23 @@ impl RunningSet {
         self.slots.capacity() - self.slots.len()
     }
 
+    /// Gives up the marked places where more than half of all, and 32 more, may be marked, as
+    /// `KnownAssignedXidsCompress` of procarray.c does at the end of transactions. It takes no memory.
+    pub(crate) fn pack(&mut self)
+        ensures xids { self.new.xids ≡ self.old.xids }
+        ensures spare { self.old.spare ≤ self.new.spare }
+        ensures packed { self.new.taken ≤ 2 * length self.new.xids + 64 }
+    {
+        if self.marked > self.slots.len() / 2 + 32 {
+            self.give_up_marked();
+        }
+    }
+
     /// Gives up the marked places.
     fn give_up_marked(&mut self)
         ensures xids { self.new.xids ≡ self.old.xids }
         ensures spare { self.old.spare ≤ self.new.spare }
+        ensures taken { self.new.taken ≡ length self.new.xids }
     {
         compact(&mut self.slots);
         self.first = 0;
@@ -134,7 +147,9 @@ impl RunningSet {
         ensures xids { self.new.xids ≡ filter (nat_le oldest) self.old.xids }
         ensures spare { self.new.spare ≡ self.old.spare }
     {
-        self.first = passed(&mut self.slots, self.first, oldest);
+        let first = self.first;
+        self.first = passed(&mut self.slots, first, oldest);
+        self.marked = self.marked.saturating_add(self.first - first);
     }
 
     /// Whether the id is in. Its place is found by halving.
@@ -220,6 +235,7 @@ impl RunningSet {
     pub(crate) fn clear(&mut self)
         ensures xids { self.new.xids ≡ [] }
         ensures spare { length self.old.xids + self.old.spare ≤ self.new.spare }
+        ensures taken { self.new.taken ≡ 0 }
     {
         self.slots.clear();
         self.first = 0;
@@ -268,6 +284,7 @@ fn fill(slots: &mut Vec<Slot>, xids: &[Xid]) -> bool
     requires room { length xids.now ≤ vec_capacity slots.old }
     ensures rising { OnTrue result (is_rising slots.new.items ≡ true) }
     ensures ids { OnTrue result (live_ids slots.new.items ≡ with_ids (numbers xids.now) []) }
+    ensures live { OnTrue result (length slots.new.items ≤ length (live_ids slots.new.items)) }
     ensures left { OnFalse result (slots.new.items ≡ []) }
     ensures room { vec_capacity slots.old ≤ (vec_capacity slots.new - vec_len slots.new) + length xids.now }
     ensures capacity { vec_capacity slots.old ≤ vec_capacity slots.new }
@@ -325,6 +342,8 @@ fn passed(slots: &mut Vec<Slot>, first: usize, oldest: u64) -> usize
     requires ended { live_ids (take first slots.old.items) ≡ [] }
     ensures order { InOrder slots.new.items result }
     ensures ids { live_ids slots.new.items ≡ filter (nat_le oldest) (live_ids slots.old.items) }
+    ensures onward { first ≤ result }
+    ensures marked { length (live_ids slots.old.items) ≤ length (live_ids slots.new.items) + (result - first) }
     ensures len { vec_len slots.new ≡ vec_len slots.old }
     ensures capacity { vec_capacity slots.new ≡ vec_capacity slots.old }
 {

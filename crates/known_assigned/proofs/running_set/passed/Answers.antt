@@ -1,8 +1,8 @@
-use Rattle.std.proofs.Common.{rules, ◌≡◌, ◌<◌, ◌≤◌, ◌⊎◌, ◌∙◌, sym, ap, inl, inr, false, get_or, length, refl, nat_lt}
+use Rattle.std.proofs.Common.{rules, ◌≡◌, ◌<◌, ◌≤◌, ◌⊎◌, ◌∙◌, sym, ap, arith, inl, inr, false, get_or, length, refl, nat_lt}
 use Rattle.std.proofs.lemmas.Bool.{ltb-true, ltb-false, both_ways}
 use Rattle.std.proofs.lemmas.List.{get_or_default}
 use Rattle.known_assigned.specs.declared.running_set.Slot.{Slot}
-use Rattle.known_assigned.proofs.Slotted.{ended-passed, filter-passed, filter-pass_over, is_rising-set, no_slot}
+use Rattle.known_assigned.proofs.Slotted.{ended-passed, few-marked, filter-passed, filter-pass_over, is_rising-set, no_slot}
 use Rattle.known_assigned.proofs.running_set.passed.Goals as goal
 use Rattle.known_assigned.proofs.running_set.passed.Goals.{then-not-index, else-not-index}
 
@@ -28,6 +28,8 @@ loop-at-preserved c =
       within = search rules;
       ended = ended-passed slots at v within refl c.loop-at.invariant.ended;
       ids = filter-passed c.args.oldest slots at no_slot v within refl why ∙ c.loop-at.invariant.ids;
+      onward = omega (arith, c.loop-at.invariant.onward);
+      marked = omega (arith, c.loop-at.invariant.marked, c.loop-at.invariant.onward, few-marked slots at v within);
       len = c.loop-at.invariant.len;
       capacity = c.loop-at.invariant.capacity;
     }

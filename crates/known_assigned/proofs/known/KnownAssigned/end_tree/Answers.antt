@@ -15,8 +15,8 @@ unfolding after_end
 returns-clause-known c =
     let out = c.args.xid.0 ∷ numbers c.args.subs.now in
     let inside = c.self.inside in
-    let ids : c.remove_listed.new.self.xids ≡ without out inside.running.xids =
-    c.remove_listed.ensures.xids ∙ ap (without (numbers c.args.subs.now)) c.remove.ensures.xids ∙ sym (without-cons c.args.xid.0 (numbers c.args.subs.now) inside.running.xids) in
+    let ids : c.pack.new.self.xids ≡ without out inside.running.xids =
+    c.pack.ensures.xids ∙ c.remove_listed.ensures.xids ∙ ap (without (numbers c.args.subs.now)) c.remove.ensures.xids ∙ sym (without-cons c.args.xid.0 (numbers c.args.subs.now) inside.running.xids) in
     let known_with : List ℕ → ℕ → Known = λ l m. record { xids = l; latest = m; observed = inside.observed; overflowed = inside.overflowed; mode = inside.state } in
     ap (λ (l : List ℕ). known_with l c.greatest_of-self-inside.result) ids
     ∙ ap (known_with (without out inside.running.xids)) c.greatest_of-self-inside.ensures

@@ -1,13 +1,14 @@
-use Rattle.std.proofs.Common.{◌≡◌, ◌<◌, ◌-◌, ◌+◌, ℕ, List, min, ◌∙◌, sym, ap, subst, refl, arith, set, true, false, vec_len}
+use Rattle.std.proofs.Common.{◌≡◌, ◌<◌, ◌-◌, ◌+◌, ℕ, List, ◌∙◌, sym, ap, subst, refl, arith, length, length-set, set, true, false, vec_len}
 use Rattle.std.specs.Vec.{vec_capacity}
 use Rattle.std.proofs.lemmas.List.{get_or_default}
+use Rattle.std.proofs.lemmas.List.Edits.{length-insert}
 use Rattle.std.proofs.lemmas.Bool.{both_ways, cond-true}
 use Rattle.std.specs.Result.{is_ok}
 use Rattle.std.specs.List.{insert}
 use Rattle.known_assigned.specs.declared.running_set.Slot.{Slot}
 use Rattle.known_assigned.specs.Ids.{is_among, with_id}
-use Rattle.known_assigned.specs.Slots.{AtPlace, InOrder, NoPlace, Places, live_ids}
-use Rattle.known_assigned.proofs.Slotted.{InOrder-inserted, InOrder-revived, is_among-no_place, live_ids-inserted, live_ids-revived, no_slot}
+use Rattle.known_assigned.specs.Slots.{AreCounted, AtPlace, InOrder, NoPlace, Places, live_ids}
+use Rattle.known_assigned.proofs.Slotted.{InOrder-inserted, InOrder-revived, few-revived, length-live_ids_inserted, is_among-no_place, live_ids-inserted, live_ids-revived, no_slot}
 use Rattle.known_assigned.proofs.running_set.RunningSet.add.Goals as goal
 
 -- the place that was found, and what is written there
@@ -21,9 +22,14 @@ written c =
 
 pub invariant_of-self : goal.invariant_of-self
 invariant_of-self c =
-    subst (λ (k : ℕ). InOrder (set c.self.inside.slots.items c.in-Ok.at (record { xid = c.index_mut.result.now.xid; live = true })) k) (sym c.min-self-inside.ensures)
-    (InOrder-revived c.self.inside.slots.items c.in-Ok.at c.args.xid c.self.inside.first (record { xid = c.index_mut.result.now.xid; live = true }) (found c) (written c) refl
-    (record { rising = c.self.invariant.rising; within = c.self.invariant.within; ended = c.self.invariant.ended; led = c.self.invariant.led }))
+    let slots = c.self.inside.slots.items in
+    let v : Slot = record { xid = c.index_mut.result.now.xid; live = true } in
+    let long : length (set slots c.in-Ok.at v) ≡ length slots = length-set slots c.in-Ok.at v in
+    record {
+      order = subst (λ (k : ℕ). InOrder (set slots c.in-Ok.at v) k) (sym c.min-self-inside.ensures)
+          (InOrder-revived slots c.in-Ok.at c.args.xid c.self.inside.first v (found c) (written c) refl c.self.invariant.order);
+      few = omega (arith, c.self.invariant.few, few-revived slots c.in-Ok.at v (found c).within refl, long);
+    }
 
 pub returns-in-Ok-clause-xids : goal.returns-in-Ok-clause-xids
 returns-in-Ok-clause-xids c =
@@ -58,10 +64,15 @@ inserted c = c.insert.ensures.items ∙ cond-true (is_ok c.insert.result) _ _ (s
 
 pub invariant_of-self-in-Err : goal.invariant_of-self-in-Err
 invariant_of-self-in-Err c =
-    subst (λ (k : ℕ). InOrder c.insert.new.self.items k) (sym c.min-self-inside-in-Err.ensures)
-    (subst (λ (l : List Slot). InOrder l (min c.self.inside.first c.in-Err.at)) (sym (inserted c))
-    (InOrder-inserted c.self.inside.slots.items c.in-Err.at c.args.xid c.self.inside.first (absent c)
-    (record { rising = c.self.invariant.rising; within = c.self.invariant.within; ended = c.self.invariant.ended; led = c.self.invariant.led })))
+    let slots = c.self.inside.slots.items in
+    let v : Slot = record { xid = c.args.xid; live = true } in
+    let long : length (insert slots c.in-Err.at v) ≡ length slots + 1 = length-insert slots c.in-Err.at v (absent c).within in
+    subst (λ (l : List Slot). AreCounted l c.min-self-inside-in-Err.result c.self.inside.marked) (sym (inserted c))
+    (record {
+      order = subst (λ (k : ℕ). InOrder (insert slots c.in-Err.at v) k) (sym c.min-self-inside-in-Err.ensures)
+          (InOrder-inserted slots c.in-Err.at c.args.xid c.self.inside.first (absent c) c.self.invariant.order);
+      few = omega (arith, c.self.invariant.few, length-live_ids_inserted slots c.in-Err.at c.args.xid, long);
+    })
 
 pub returns-else-is_err-clause-xids : goal.returns-else-is_err-clause-xids
 returns-else-is_err-clause-xids c =

@@ -17,13 +17,13 @@ returns-clause-ok c =
     ∙ c.loop-slot.invariant
     ∙ ap live_ids (take_rest slots first)
     ∙ ap (λ l. live_ids (drop first l)) c.as_slice.ensures.value
-    ∙ live_from_first c.self.inside.slots.items first c.self.invariant.ended
+    ∙ live_from_first c.self.inside.slots.items first c.self.invariant.order.ended
     ∙ ap (λ (p : Places). p.xids) c.self.view_is
 
 pub returns-clause-rising : goal.returns-clause-rising
 returns-clause-rising c =
-    subst (λ (p : Places). IsStrictlyIncreasing p.xids) c.self.view_is (increasing c.self.inside.slots.items c.self.invariant.rising)
+    subst (λ (p : Places). IsStrictlyIncreasing p.xids) c.self.view_is (increasing c.self.inside.slots.items c.self.invariant.order.rising)
 
 pub returns-in_err-push-clause-rising : goal.returns-in_err-push-clause-rising
 returns-in_err-push-clause-rising c =
-    subst (λ (p : Places). IsStrictlyIncreasing p.xids) c.self.view_is (increasing c.self.inside.slots.items c.self.invariant.rising)
+    subst (λ (p : Places). IsStrictlyIncreasing p.xids) c.self.view_is (increasing c.self.inside.slots.items c.self.invariant.order.rising)

@@ -15,5 +15,5 @@ returns-else-len-eq0 c =
     let end : length slots ≤ last + 1 = omega arith in
     let read : (get_or slots last no_slot).xid ≡ c.index.result.now.xid = ap (λ (s : Slot). s.xid) (sym (c.index.ensures ∙ get_or_default slots last c.index.result.now no_slot within)) in
     let all : list_all (λ x. nat_le x c.index.result.now.xid) (live_ids slots) ≡ true =
-    subst (λ (m : ℕ). list_all (λ x. nat_le x m) (live_ids slots) ≡ true) read (live_upto slots last c.self.invariant.rising within end) in
+    subst (λ (m : ℕ). list_all (λ x. nat_le x m) (live_ids slots) ≡ true) read (live_upto slots last c.self.invariant.order.rising within end) in
     ap (λ (p : Places). list_all (λ x. nat_le x c.index.result.now.xid) p.xids) (sym c.self.view_is) ∙ all

@@ -13,9 +13,9 @@ returns-then-self-len-clause-least c =
     let first = c.self.inside.first in
     let within : first < length slots = search rules in
     ap (λ (s : Slot). Some s.xid) (c.index.ensures ∙ get_or_default slots first c.index.result.now no_slot within)
-    ∙ sym (least-first slots first (record { rising = c.self.invariant.rising; within = c.self.invariant.within; ended = c.self.invariant.ended; led = c.self.invariant.led }) within)
+    ∙ sym (least-first slots first (c.self.invariant.order) within)
     ∙ ap (λ (p : Places). slice_get p.xids 0) c.self.view_is
 
 pub returns-then-self-len-clause-rising : goal.returns-then-self-len-clause-rising
 returns-then-self-len-clause-rising c =
-    subst (λ (p : Places). IsStrictlyIncreasing p.xids) c.self.view_is (increasing c.self.inside.slots.items c.self.invariant.rising)
+    subst (λ (p : Places). IsStrictlyIncreasing p.xids) c.self.view_is (increasing c.self.inside.slots.items c.self.invariant.order.rising)

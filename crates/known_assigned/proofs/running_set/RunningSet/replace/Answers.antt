@@ -1,4 +1,4 @@
-use Rattle.std.proofs.Common.{rules, ◌≡◌, ◌≤◌, ◌-◌, ◌∙◌, ap, arith, length, vec_len}
+use Rattle.std.proofs.Common.{rules, ℕ, List, ◌≡◌, ◌≤◌, ◌-◌, ◌∙◌, ap, arith, length, vec_len}
 use Rattle.std.specs.Vec.{vec_capacity}
 use Rattle.known_assigned.specs.Ids.{numbers, with_ids}
 use Rattle.known_assigned.specs.Slots.{Places, live_ids}
@@ -32,3 +32,15 @@ loop-xid-init c =
 pub returns-then-fill-clause-xids : goal.returns-then-fill-clause-xids
 returns-then-fill-clause-xids c =
     c.passed-self-inside.ensures.ids ∙ filter-from_zero (live_ids c.fill.new.slots.items) ∙ c.if-fill.ensures.ids
+
+pub invariant_of-self : goal.invariant_of-self
+invariant_of-self c =
+    let placed = c.fill.new.slots.items in
+    let after = c.passed-self-inside.new.slots.items in
+    let same : length (live_ids after) ≡ length (live_ids placed) =
+    ap (λ (l : List ℕ). length l) (c.passed-self-inside.ensures.ids ∙ filter-from_zero (live_ids placed)) in
+    let whole : length after ≡ length placed = search rules in
+    record {
+      order = c.passed-self-inside.ensures.order;
+      few = omega (arith, c.if-fill.ensures.live, same, whole);
+    }
