@@ -46,7 +46,7 @@ leads_along o (r ∷ older) legal =
       leads_along o older before,
       λ x h. omega arith,
       ap (λ (t : ℕ → Bool). replay t r.head.xid.0 (kind_of r.head r.kind) was) same
-      ∙ sym (forget_none (replay shows r.head.xid.0 (kind_of r.head r.kind) was)),
+          ∙ sym (forget_none (replay shows r.head.xid.0 (kind_of r.head r.kind) was)),
     )
 
 -- no record assigns a subtransaction
