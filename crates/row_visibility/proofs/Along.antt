@@ -1,7 +1,7 @@
 -- Along a legal log what a standby knows of running transactions is what the rules of known ids lead to.
 use Rattle.std.proofs.Common.{◌≡◌, ℕ, Bool, false, not, ◌&&◌, cond, List, [], ◌∷◌, ◌++◌, arith, refl, sym, ap, ◌∙◌, subst}
 use Rattle.std.proofs.Math.Path.{fun_ext}
-use Rattle.std.proofs.lemmas.Bool.{cond_both, or_from}
+use Rattle.std.proofs.lemmas.Bool.{cond_both, le-leb, or_from}
 use Rattle.std.proofs.lemmas.List.{append-nil}
 use Rattle.std.specs.List.{list_any}
 use Rattle.wal_record.specs.declared.types.RecordHead.{RecordHead}
@@ -25,7 +25,9 @@ use Rattle.row_visibility.proofs.Statuses.{ended_along, first, is_caught_up, leg
 -- from the subtransaction 0 on there are all parents
 from_zero : (pairs : List Pair) → from_sub pairs 0 ≡ pairs
 from_zero [] = refl
-from_zero (p ∷ pairs) = ap (λ (rest : List Pair). p ∷ rest) (from_zero pairs)
+from_zero (p ∷ pairs) =
+    ap (λ (t : Bool). cond t (p ∷ from_sub pairs 0) (from_sub pairs 0)) (le-leb 0 p.sub (omega arith))
+    ∙ ap (λ (rest : List Pair). p ∷ rest) (from_zero pairs)
 
 forget_none : (k : StandbyState) → forget_below 0 k ≡ k
 forget_none k = ap (λ (pairs : List Pair). record k { parents = pairs }) (from_zero k.parents)
