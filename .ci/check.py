@@ -1,11 +1,15 @@
 #!/usr/bin/env python3
 """Static checks of the repository that need no proof: the handles, the crates and their folders, links between
-documents, and the size of files and functions. Prints what is wrong, and ends with status 1 where anything is."""
+documents, the size of files, and that binary cases are what their notations make. Prints what is wrong, and ends
+with status 1 where anything is."""
 import re
 import sys
 from pathlib import Path
 
 TOP = Path(__file__).resolve().parent.parent
+sys.path.insert(0, str(TOP / "tools"))
+sys.dont_write_bytecode = True
+import walnote
 wrong = []
 
 
@@ -52,10 +56,17 @@ def check_sizes():
             wrong.append(f"{path.relative_to(TOP)} has more than 800 lines")
 
 
+def check_notations():
+    notes = sorted((TOP / "crates").glob("*/data/**/*.note"))
+    cases = [path for path in sorted((TOP / "crates").glob("*/stdin")) if " | " in path.read_text()]
+    wrong.extend(walnote.wrong([*notes, *cases]))
+
+
 check_handles()
 check_crates()
 check_links()
 check_sizes()
+check_notations()
 for line in wrong:
     print(line)
 print(f"static checks: {len(wrong)} wrong")
