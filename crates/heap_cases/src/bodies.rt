@@ -1,5 +1,5 @@
 use crate::records::KNOWN;
-use case_text::{ShowHex, ShowPosition, Wrong, bytes, position};
+use case_text::{ShowHex, ShowPosition, Wrong, bytes, position, words};
 use pg_types::{Lsn, Xid};
 use std::alloc::Global;
 use std::fmt;
@@ -9,29 +9,35 @@ use wal_record::{PrevRule, RecordView, decode};
 /// The described database.
 const DATABASE: u32 = 16384;
 
-/// Answers a line about a record: where it stands, where the one before stands, where it ends, and its bytes.
-pub fn answer(alloc: Global, words: &[&str]) -> Result<String, Wrong> {
-    match *words {
-        [at, before, end, data] => {
-            let at = position(at)?;
-            let before = position(before)?;
-            let end = position(end)?;
-            let data = bytes(alloc, data)?;
-            match decode(data.as_slice(), at, PrevRule::Is(before)) {
-                Ok(view) => typed_text(alloc, &view, at, end),
-                Err(_) => Ok(String::from_str(alloc, "no record")?),
-            }
+/// Answers a line about a record: where it stands, where the one before stands, where it ends; behind the
+/// bars its notation, which is not read here, and its bytes.
+pub fn answer(alloc: Global, front: &str, rest: &str) -> Result<String, Wrong> {
+    let (_, data) = rest.split_once(" | ").ok_or(Wrong::Line)?;
+    let data = bytes(alloc, data)?;
+    let front = words(alloc, front)?;
+    match *front {
+        ["body", at, before, end] => {
+            let before = PrevRule::Is(position(before)?);
+            read(
+                alloc,
+                data.as_slice(),
+                before,
+                position(at)?,
+                position(end)?,
+            )
         }
         _ => Err(Wrong::Line),
     }
 }
 
-fn typed_text(
-    alloc: Global,
-    view: &RecordView<'_>,
-    at: Lsn,
-    end: Lsn,
-) -> Result<String, Wrong> {
+fn read(alloc: Global, bytes: &[u8], before: PrevRule, at: Lsn, end: Lsn) -> Result<String, Wrong> {
+    match decode(bytes, at, before) {
+        Ok(view) => typed_text(alloc, &view, at, end),
+        Err(_) => Ok(String::from_str(alloc, "no record")?),
+    }
+}
+
+fn typed_text(alloc: Global, view: &RecordView<'_>, at: Lsn, end: Lsn) -> Result<String, Wrong> {
     match body(alloc, view, at, end, DATABASE, &KNOWN) {
         Ok(rec) => {
             let text = ShowRec(&rec);
@@ -130,7 +136,10 @@ fn show_checkpoint<W: fmt::Write>(kind: &RecKind, f: &mut fmt::Formatter<W>) -> 
             let previous = previous.0;
             let next = next.0;
             let active = oldest_active.0;
-            write!(f, "checkpoint redo {redo} timeline {timeline} previous {previous} ")?;
+            write!(
+                f,
+                "checkpoint redo {redo} timeline {timeline} previous {previous} "
+            )?;
             write!(f, "page-writes {full_page_writes} next {next} ")?;
             write!(f, "multi {next_multi} member {next_member} ")?;
             write!(f, "oldest-multi {oldest_multi} oldest-active {active}")
@@ -150,7 +159,10 @@ fn show_parameters<W: fmt::Write>(kind: &RecKind, f: &mut fmt::Formatter<W>) -> 
             wal_level,
         } => {
             write!(f, "parameters connections {max_connections} ")?;
-            write!(f, "workers {max_worker_processes} senders {max_wal_senders} ")?;
+            write!(
+                f,
+                "workers {max_worker_processes} senders {max_wal_senders} "
+            )?;
             write!(f, "prepared {max_prepared_transactions} ")?;
             write!(f, "locks {max_locks_per_transaction} level {wal_level}")
         }
@@ -188,14 +200,20 @@ fn show_heap<W: fmt::Write>(kind: &RecKind, f: &mut fmt::Formatter<W>) -> fmt::R
             line,
             bits,
             flags,
-        } => write!(f, "delete xmax {xmax} line {line} bits 0x{bits:02x} flags 0x{flags:02x}"),
+        } => write!(
+            f,
+            "delete xmax {xmax} line {line} bits 0x{bits:02x} flags 0x{flags:02x}"
+        ),
         RecKind::Confirm { line } => write!(f, "confirm line {line}"),
         RecKind::Lock {
             xmax,
             line,
             bits,
             flags,
-        } => write!(f, "lock xmax {xmax} line {line} bits 0x{bits:02x} flags 0x{flags:02x}"),
+        } => write!(
+            f,
+            "lock xmax {xmax} line {line} bits 0x{bits:02x} flags 0x{flags:02x}"
+        ),
         RecKind::LockUpdated {
             xmax,
             line,
@@ -223,8 +241,14 @@ fn show_update<W: fmt::Write>(kind: &RecKind, f: &mut fmt::Formatter<W>) -> fmt:
             new_xmax,
             new_line,
         } => {
-            write!(f, "update xmax {old_xmax} line {old_line} bits 0x{old_bits:02x} ")?;
-            write!(f, "flags 0x{flags:02x} new-xmax {new_xmax} new-line {new_line}")
+            write!(
+                f,
+                "update xmax {old_xmax} line {old_line} bits 0x{old_bits:02x} "
+            )?;
+            write!(
+                f,
+                "flags 0x{flags:02x} new-xmax {new_xmax} new-line {new_line}"
+            )
         }
         _ => Ok(()),
     }
@@ -270,7 +294,10 @@ fn show_new<W: fmt::Write>(tuple: &NewTuple, f: &mut fmt::Formatter<W>) -> fmt::
     let prefix = tuple.prefix;
     let suffix = tuple.suffix;
     let rest = ShowHex(tuple.rest.as_slice());
-    write!(f, ", tuple 0x{mask2:04x} 0x{mask:04x} {hoff} {prefix} {suffix} {rest}")
+    write!(
+        f,
+        ", tuple 0x{mask2:04x} 0x{mask:04x} {hoff} {prefix} {suffix} {rest}"
+    )
 }
 
 /// Shows ids between commas, and none as `-`.

@@ -1,9 +1,7 @@
 ghost use Rattle.std.specs.Prelude.{◌≡◌, ◌≤◌, length};
 
 use byteorder::{ByteOrder, LittleEndian};
-use case_text::{
-    ShowHex, ShowPosition, Wrong, bytes, number_u8, number_u16, number_u32, place,
-};
+use case_text::{ShowHex, ShowPosition, Wrong, bytes, number_u8, number_u16, number_u32, place};
 use heap_page::{Item, Page, check, item, lines, lsn};
 use heap_tuple::TupleView;
 use std::alloc::Global;

@@ -42,8 +42,19 @@ fn bench(alloc: Global) -> Result<Bench, Wrong>
     })
 }
 
-/// The answer to a line.
+/// The answer to a line: one of a record in typed form has its notation and its bytes behind bars.
 fn answer(alloc: Global, bench: &mut Bench, line: &str) -> Result<String, Wrong>
+    requires { table_count bench.old.pool ≡ 2 }
+    ensures { table_count bench.new.pool ≡ 2 }
+{
+    match line.split_once(" | ") {
+        Some((front, rest)) => bodies::answer(alloc, front, rest),
+        None => answer_words(alloc, bench, line),
+    }
+}
+
+/// The answer to a line of words.
+fn answer_words(alloc: Global, bench: &mut Bench, line: &str) -> Result<String, Wrong>
     requires { table_count bench.old.pool ≡ 2 }
     ensures { table_count bench.new.pool ≡ 2 }
 {
@@ -55,7 +66,6 @@ fn answer(alloc: Global, bench: &mut Bench, line: &str) -> Result<String, Wrong>
         "tuple" => tuples::answer(alloc, rest),
         "page" => pages::answer(alloc, &mut bench.page, rest),
         "pool" => pools::answer(alloc, &mut bench.pool, rest),
-        "body" => bodies::answer(alloc, rest),
         "record" => bench.draft.begin(alloc, rest),
         "block" => bench.draft.add_block(alloc, rest),
         "image" => bench.draft.add_image(alloc, rest),

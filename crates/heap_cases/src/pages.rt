@@ -92,11 +92,7 @@ fn shown(answer: Result<(), PageError>) -> &'static str {
 }
 
 /// Changes a page in the way that the words say.
-pub fn change_page(
-    alloc: Global,
-    page: &mut Page,
-    words: &[&str],
-) -> Result<&'static str, Wrong>
+pub fn change_page(alloc: Global, page: &mut Page, words: &[&str]) -> Result<&'static str, Wrong>
     requires { IsPage page.old }
 {
     match *words {
@@ -112,7 +108,7 @@ pub fn change_page(
 }
 
 fn state(page: &mut Page, line: &str, to: LineState) -> Result<&'static str, Wrong>
-    requires { IsPage page.old }
+    requires page { IsPage page.old }
     requires state { IsState to }
 {
     let line = number_u16(line)?;
@@ -130,11 +126,7 @@ fn redirect(page: &mut Page, line: &str, to: u16) -> Result<&'static str, Wrong>
 }
 
 /// A tuple, or the header of one, goes to a line.
-fn change_tuple(
-    alloc: Global,
-    page: &mut Page,
-    words: &[&str],
-) -> Result<&'static str, Wrong>
+fn change_tuple(alloc: Global, page: &mut Page, words: &[&str]) -> Result<&'static str, Wrong>
     requires { IsPage page.old }
 {
     match words.split_first() {

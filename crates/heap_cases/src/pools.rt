@@ -118,12 +118,7 @@ fn changed(alloc: Global, pool: &mut Pool, words: &[&str]) -> Result<String, Wro
     Ok(String::from_str(alloc, text)?)
 }
 
-fn change(
-    alloc: Global,
-    pool: &mut Pool,
-    tag: Tag,
-    words: &[&str],
-) -> Result<&'static str, Wrong>
+fn change(alloc: Global, pool: &mut Pool, tag: Tag, words: &[&str]) -> Result<&'static str, Wrong>
     requires { tag.table < table_count pool.old }
     ensures { table_count pool.new ≡ table_count pool.old }
 {

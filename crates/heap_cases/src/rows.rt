@@ -28,7 +28,8 @@ pub struct ShowRow<'a>(pub &'a Row);
 
 impl<'a> fmt::Display for ShowRow<'a> {
     fn fmt<W: fmt::Write>(&self, f: &mut fmt::Formatter<W>) -> fmt::Result {
-        let mut between = "(";
+        write!(f, "(")?;
+        let mut between = "";
         for cell in self.0.cells() {
             let cell = ShowCell(cell);
             write!(f, "{between}{cell}")?;
@@ -46,16 +47,10 @@ pub fn row_text(alloc: Global, bytes: &[u8], columns: &[Column]) -> Result<Strin
     }
 }
 
-fn values_text(
-    alloc: Global,
-    view: &TupleView<'_>,
-    columns: &[Column],
-) -> Result<String, Wrong> {
+fn values_text(alloc: Global, view: &TupleView<'_>, columns: &[Column]) -> Result<String, Wrong> {
     match view.deform(alloc, columns) {
         Ok(row) => copied_text(alloc, &row),
-        Err(RowFault::Toasted { column }) => {
-            Ok(format!(in alloc; "toasted, column {column}")?)
-        }
+        Err(RowFault::Toasted { column }) => { Ok(format!(in alloc; "toasted, column {column}")?) }
         Err(RowFault::Bad { column }) => Ok(format!(in alloc; "bad, column {column}")?),
         Err(RowFault::Memory) => Err(Wrong::Memory),
     }

@@ -50,7 +50,13 @@ pub fn answer(alloc: Global, pool: &mut Pool, words: &[&str]) -> Result<String, 
             if table >= 2 {
                 return Err(Wrong::Number);
             }
-            scan(alloc, pool, Tag { table, block }, columns.as_slice(), &snapshot)
+            scan(
+                alloc,
+                pool,
+                Tag { table, block },
+                columns.as_slice(),
+                &snapshot,
+            )
         }
         _ => Err(Wrong::Line),
     }

@@ -83,7 +83,9 @@ fn fields_text(alloc: Global, view: &TupleView<'_>) -> Result<String, Wrong> {
     let hoff = view.hoff();
     let deleter = ShowMax(view.max_of());
     let data = ShowHex(view.user_data());
-    Ok(format!(in alloc; "{front}, columns {columns}, hoff {hoff}, deleter {deleter}, data {data}")?)
+    Ok(format!(in alloc;
+        "{front}, columns {columns}, hoff {hoff}, deleter {deleter}, data {data}"
+    )?)
 }
 
 fn front_text(alloc: Global, view: &TupleView<'_>) -> Result<String, Wrong> {
