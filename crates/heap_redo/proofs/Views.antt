@@ -147,15 +147,7 @@ module _ (rec : Rec) (block : RecBlock) (view : View) (tag : Tag) where
 pub err-is : {A : Type 0} → (a b : RedoFault) → a ≡ b → (let r : Result A RedoFault = Err a in r) ≡ Err b
 err-is {A} a b e = let err : RedoFault → Result A RedoFault = λ f. Err f in ap err e
 
-ok-view : (view : View) → (let r : Result View RedoFault = Ok view in IsOk r)
-ok-view view = refl
-
 -- what is followed may be written in another way
 pub followed : (view : View) (result : Result (Unit {0}) RedoFault) (given other : Result View RedoFault) → given ≡ other → Follows view result given → Follows view result other
 followed view result given other e (inl memory) = inl (memory.0, subst (λ (r : Result View RedoFault). IsOk r) e memory.1)
 followed view result given other e (inr same) = inr (same ∙ e)
-
--- a block's change that is not refused
-pub ok-by : (rec : Rec) (block : RecBlock) (view : View) (tag : Tag) (left : Seen) (r : Result Seen BlockRefusal) → Ok left ≡ r → IsOk (view_by rec block view tag r)
-ok-by rec block view tag left r e =
-    subst (λ (r : Result Seen BlockRefusal). IsOk (view_by rec block view tag r)) e (ok-view (view_with rec block view tag left))
