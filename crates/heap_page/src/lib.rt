@@ -18,6 +18,3 @@ pub use laws::{items_end_in_use, one_line_changes, tuples_keep_their_rule, zeros
 pub use line::{Item, LineState, Page, PageError};
 pub use page::{init, item, lines, lsn, set_line, set_lsn};
 pub use rule::check;
-
-#[cfg(test)]
-mod tests;

@@ -1,5 +1,5 @@
 -- The blocks of a pool as redo sees them, after one of them changed.
-use Rattle.std.proofs.Common.{arith, ap, sym, refl, ◌∙◌, ◌≡◌, ◌≢◌, inl, inr, ℕ, Bool, true, false, not, ◌&&◌, ◌==◌, cond, nat_lt, List, Option, Some, None, Result, Ok, Err}
+use Rattle.std.proofs.Common.{arith, ap, sym, refl, ◌∙◌, ◌≡◌, ◌≢◌, inl, inr, ℕ, Bool, true, false, not, ◌&&◌, ◌==◌, cond, nat_lt, List, Option, Some, None, Result, Ok, Err, IsOk, subst}
 use Rattle.std.proofs.Math.Path.{fun_ext}
 use Rattle.std.proofs.lemmas.Bool.{cases_eq}
 use Rattle.std.proofs.lemmas.Bool.Decides.{nat_tests}
@@ -14,7 +14,7 @@ use Rattle.wal_bodies.specs.declared.types.RecBlock.{RecBlock}
 use Rattle.wal_bodies.specs.After.{BlockRefusal}
 use Rattle.heap_redo.specs.declared.fault.RedoFault.{RedoFault}
 use Rattle.heap_redo.specs.Refused.{pool_fault_at}
-use Rattle.heap_redo.specs.Redone.{Seen, bad_block, seen_page, seen, View, view_of, is_anew, is_left, redone_block, with_seen, or_zero_block, grown, view_with, view_by, view_outcome, fault_by, fault_outcome}
+use Rattle.heap_redo.specs.Redone.{Seen, bad_block, seen_page, seen, View, view_of, is_anew, is_left, redone_block, with_seen, or_zero_block, grown, view_with, view_by, view_outcome, Follows, fault_by, fault_outcome}
 use Rattle.heap_redo.proofs.OneBlock.{missing-refused, broken-refused}
 
 seen-cond : (v : Bool) (bytes : List ℕ) (block : Option (List ℕ)) → seen (cond v (Some bytes) block) ≡ cond v (seen (Some bytes)) (seen block)
@@ -146,3 +146,8 @@ module _ (rec : Rec) (block : RecBlock) (view : View) (tag : Tag) where
 -- a fault is answered
 pub err-is : {A : Type 0} → (a b : RedoFault) → a ≡ b → (let r : Result A RedoFault = Err a in r) ≡ Err b
 err-is {A} a b e = let err : RedoFault → Result A RedoFault = λ f. Err f in ap err e
+
+-- what is followed may be written in another way
+pub followed : (view : View) (result : Result (Unit {0}) RedoFault) (given other : Result View RedoFault) → given ≡ other → Follows view result given → Follows view result other
+followed view result given other e (inl memory) = inl (memory.0, subst (λ (r : Result View RedoFault). IsOk r) e memory.1)
+followed view result given other e (inr same) = inr (same ∙ e)

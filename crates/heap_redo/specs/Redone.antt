@@ -1,6 +1,6 @@
 -- What redo of a record leaves of the blocks of the described tables (xlogutils.c,
 -- XLogReadBufferForRedoExtended; heapam.c, heap_redo and heap2_redo).
-use Rattle.std.specs.Prelude.{◌≡◌, ◌⊎◌, ℕ, take, ◌==◌, Bool, false, not, ◌&&◌, ◌||◌, nat_le, nat_lt, List, [], ◌∷◌, Option, Some, None, is_some, position, Result, Ok, Err, if◌then◌else◌}
+use Rattle.std.specs.Prelude.{◌≡◌, ◌⊎◌, ℕ, take, ◌==◌, Bool, false, not, ◌&&◌, ◌||◌, nat_le, nat_lt, List, [], ◌∷◌, Option, Some, None, is_some, position, slice_get, Result, Ok, Err, IsOk, if◌then◌else◌}
 use Rattle.pg_types.specs.declared.names.Tag.{Tag}
 use Rattle.pg_types.specs.declared.names.Locator.{Locator}
 use Rattle.heap_page.specs.Item.{Item}
@@ -130,6 +130,11 @@ abbrev pub view_outcome : View → Result (Unit {0}) RedoFault → Result View R
 view_outcome view (Ok done) = Ok view
 view_outcome view (Err fault) = Err fault
 
+-- The answer of a call that changes blocks, and what stands after it: those that the definition gives, or want of
+-- memory where it gives no refusal.
+abbrev pub Follows : View → Result (Unit {0}) RedoFault → Result View RedoFault → Type 0
+Follows view result given = ((result ≡ Err Memory) × IsOk given) ⊎ (view_outcome view result ≡ given)
+
 -- a page, where its change was not refused
 abbrev pub seen_outcome : List ℕ → Result (Unit {0}) Refusal → Result Seen BlockRefusal
 seen_outcome bytes (Ok done) = Ok (seen (Some bytes))
@@ -145,10 +150,13 @@ abbrev pub fault_outcome : List ℕ → Result (Unit {0}) RedoFault → Result S
 fault_outcome bytes (Ok done) = Ok (seen (Some bytes))
 fault_outcome bytes (Err fault) = Err fault
 
--- memory ran out after so many of the record's blocks
+-- Memory ran out after so many of the record's blocks, at one whose change is not refused.
 pub record RanOut (rec : Rec) (known : List Locator) (old new : View) : Type 0 where
   pub done : ℕ
   pub stands : redone rec known (take done rec.blocks) old ≡ (new, Ok tt)
+  pub next : RecBlock
+  pub is_next : slice_get rec.blocks done ≡ Some next
+  pub not_refused : IsOk (redone_at rec known next new)
 
 -- What stands after redo of a record, and its answer: those of the whole record, or those after some of
 -- its blocks, where memory ran out.

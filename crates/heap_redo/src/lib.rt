@@ -16,6 +16,3 @@ mod version;
 pub use fault::RedoFault;
 pub use law::repeats;
 pub use replay::redo;
-
-#[cfg(test)]
-mod tests;

@@ -1,7 +1,7 @@
-ghost use Rattle.std.specs.Prelude.{◌≡◌, ◌⊎◌, ◌<◌, ◌≤◌, ◌^◌, true, false, length, Some, Err, IfSome, OnErr};
+ghost use Rattle.std.specs.Prelude.{◌≡◌, ◌<◌, ◌≤◌, ◌^◌, true, false, length, Some, Err, IfSome, OnErr};
 ghost use Rattle.heap_page.specs.Page.{IsPage};
 ghost use Rattle.page_store.specs.Content.{content, table_count};
-ghost use Rattle.heap_redo.specs.Redone.{seen, view_of, fault_by, fault_outcome, is_anew, is_left, redone_block, view_by, table_of, redone_at, view_outcome, Stands};
+ghost use Rattle.heap_redo.specs.Redone.{seen, view_of, fault_by, fault_outcome, is_anew, is_left, redone_block, view_by, table_of, redone_at, view_outcome, Follows, Stands};
 
 use crate::block::{anew, changed, is_anew, is_left};
 use crate::fault::{RedoFault, Refusal, fault_at, pool_fault};
@@ -40,8 +40,8 @@ fn change(pool: &mut Pool, tag: Tag, rec: &Rec, block: &RecBlock) -> Result<(), 
     requires anew { is_anew block.now ≡ false }
     requires left { is_left rec.now block.now ≡ false }
     requires block { block.now.block < 4294967295 }
-    ensures answer { (result ≡ Err RedoFault.Memory) ⊎ (view_outcome (view_of (content pool.new)) result
-        ≡ view_by rec.now block.now (view_of (content pool.old)) tag (redone_block rec.now block.now (seen (content pool.old tag.table tag.block)))) }
+    ensures answer { view_outcome (view_of (content pool.new)) result
+        ≡ view_by rec.now block.now (view_of (content pool.old)) tag (redone_block rec.now block.now (seen (content pool.old tag.table tag.block))) }
     ensures err { OnErr result (content pool.new ≡ content pool.old) }
     ensures tables { table_count pool.new ≡ table_count pool.old }
 {
@@ -58,8 +58,8 @@ fn remake(pool: &mut Pool, tag: Tag, rec: &Rec, block: &RecBlock) -> Result<(), 
     requires anew { is_anew block.now ≡ true }
     requires left { is_left rec.now block.now ≡ false }
     requires block { block.now.block < 4294967295 }
-    ensures answer { (result ≡ Err RedoFault.Memory) ⊎ (view_outcome (view_of (content pool.new)) result
-        ≡ view_by rec.now block.now (view_of (content pool.old)) tag (redone_block rec.now block.now (seen (content pool.old tag.table tag.block)))) }
+    ensures answer { Follows (view_of (content pool.new)) result
+        (view_by rec.now block.now (view_of (content pool.old)) tag (redone_block rec.now block.now (seen (content pool.old tag.table tag.block)))) }
     ensures err { OnErr result (content pool.new ≡ content pool.old) }
     ensures tables { table_count pool.new ≡ table_count pool.old }
 {
@@ -85,8 +85,7 @@ fn redo_block(
 ) -> Result<(), RedoFault>
     requires tables { length known.now ≤ table_count pool.old }
     requires few { length known.now < 2 ^ 16 }
-    ensures answer { (result ≡ Err RedoFault.Memory) ⊎ (view_outcome (view_of (content pool.new)) result
-        ≡ redone_at rec.now known.now block.now (view_of (content pool.old))) }
+    ensures answer { Follows (view_of (content pool.new)) result (redone_at rec.now known.now block.now (view_of (content pool.old))) }
     ensures err { OnErr result (content pool.new ≡ content pool.old) }
     ensures tables { table_count pool.new ≡ table_count pool.old }
 {
@@ -120,7 +119,8 @@ fn redo_block(
 /// # Errors
 /// Each fault but `Memory` names the record's start and the place. Each block is then as before the
 /// record or after it, the blocks up to one after and the others before, and the record is refused again.
-/// After `Memory` too; a repeated call then leaves what one call leaves.
+/// After `Memory` too, and the block at which it came is not refused; a repeated call then leaves what one
+/// call leaves.
 pub fn redo(rec: &Rec, known: &[Locator], pool: &mut Pool) -> Result<(), RedoFault>
     requires tables { length known.now ≤ table_count pool.old }
     requires few { length known.now < 2 ^ 16 }

@@ -10,6 +10,3 @@ mod values;
 pub use cell::{Cell, Column, Kind, Row};
 pub use tuple_view::{MaxOf, TupleView, is_lock_only, is_tuple, is_tuple_head};
 pub use values::RowFault;
-
-#[cfg(test)]
-mod tests;

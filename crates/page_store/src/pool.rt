@@ -1,4 +1,4 @@
-ghost use Rattle.std.specs.Prelude.{◌≡◌, ℕ, ◌↔◌, ◌⊎◌, ◌<◌, None, Err, IsSome, IfSome, IfOk, IfErr, OnOk, OnErr};
+ghost use Rattle.std.specs.Prelude.{◌≡◌, ℕ, ◌↔◌, ◌<◌, None, Err, IsSome, IfSome, IfOk, IfErr, OnOk, OnErr};
 ghost use Rattle.std.specs.Borrow.{sem};
 ghost use Rattle.heap_page.specs.Page.{IsPage};
 
@@ -77,13 +77,12 @@ impl Pool {
     }
 
     /// Lends the page of a block for a change of it. `Missing` comes exactly where the table does not
-    /// have the block, `BadPage` exactly where its bytes break the page rule.
+    /// have the block, `BadPage` exactly where its bytes break the page rule. It takes no memory.
     #[tactic(auto, unfolding(crate::specs::Content::table_count))]
     pub fn page(&mut self, tag: Tag) -> Result<&mut Page, PoolFault>
         requires { tag.table < table_count self.old }
         ensures* lends { sem 𝓛 (LendsPage self.entry tag result) }
-        ensures answer { (result ≡ Err PoolFault.Memory)
-            ⊎ (lent result ≡ page_answer (content self.old tag.table tag.block)) }
+        ensures answer { lent result ≡ page_answer (content self.old tag.table tag.block) }
         ensures page { IfOk result (λ page. IsPage page.now) }
     {
         match self.check_page(tag) {
@@ -99,8 +98,7 @@ impl Pool {
     pub fn look(&mut self, tag: Tag) -> Result<&Page, PoolFault>
         requires { tag.table < table_count self.old }
         ensures* lends { sem 𝓛 (LendsLook self.entry) }
-        ensures answer { (result ≡ Err PoolFault.Memory)
-            ⊎ (seen result ≡ page_answer (content self.old tag.table tag.block)) }
+        ensures answer { seen result ≡ page_answer (content self.old tag.table tag.block) }
         ensures page { IfOk result (λ page. IsPage page.now) }
     {
         match self.check_page(tag) {

@@ -1,22 +1,18 @@
 -- What the rows of a block are where its page was lent, and where it was not.
-use Rattle.std.proofs.Common.{◌≡◌, ◌≢◌, ◌⊎◌, inl, inr, ℕ, Bool, true, false, cond, List, Option, Some, None, Result, Ok, Err, IfOk, OnOk, refl, sym, ap, ◌∙◌}
+use Rattle.std.proofs.Common.{◌≡◌, ℕ, Bool, true, false, cond, List, Option, Some, None, Result, Ok, Err, IfOk, refl, sym, ap, ◌∙◌}
 use Rattle.std.proofs.lemmas.Result.{IfOk-weaker}
 use Rattle.std.specs.Borrow.{Bor}
 use Rattle.pg_types.specs.declared.status.Unknown.{Unknown}
 use Rattle.heap_tuple.specs.declared.cell.Column.{Column}
 use Rattle.heap_page.specs.Page.{is_page, lsn_of, items_of}
 use Rattle.page_store.specs.declared.pool.PoolFault.{PoolFault}
-use Rattle.page_store.specs.declared.pool.PoolFault.TheVariants.{BadPage, Memory}
+use Rattle.page_store.specs.declared.pool.PoolFault.TheVariants.{BadPage}
 use Rattle.page_store.specs.Content.{page_answer, seen as read}
 use Rattle.heap_redo.specs.Redone.{bad_block, seen_page, seen}
 use Rattle.pg_types.specs.declared.fail.NoMemory.{NoMemory}
 use Rattle.seq_scan.specs.declared.rows.BlockRows.{BlockRows as RowsRead}
 use Rattle.seq_scan.specs.Meaning.{meaning}
 use Rattle.seq_scan.specs.BlockRows.{NoPage, ends, block_rows, rows_from}
-
--- what the call that lends a page for reading answers
-abbrev pub IsAnswer : Result (Bor (List ℕ)) PoolFault → Option (List ℕ) → Type 0
-IsAnswer result block = (result ≡ Err Memory) ⊎ (read result ≡ page_answer block)
 
 lent_page : (v : Bool) (bytes page : List ℕ) → Ok page ≡ cond v (Ok bytes) (Err BadPage) → (v ≡ true) × (page ≡ bytes)
 lent_page true bytes page e = (refl, cc)
@@ -42,14 +38,12 @@ module _ (columns : List Column) (sees : List ℕ → Result Bool Unknown) where
       ap (λ v. block_rows columns sees (cond v (seen_page (lsn_of bytes) (items_of bytes)) bad_block)) (sym (not_lent (is_page bytes) bytes fault e))
 
   -- the rows of a page that is lent are those of its block
-  pub rows_read : (block : Option (List ℕ)) (result : Result (Bor (List ℕ)) PoolFault) (page : Bor (List ℕ)) (r : Result RowsRead NoMemory) → IsAnswer result block → result ≡ Ok page → IfOk r (λ b. meaning b ≡ rows_from columns sees 1 (items_of page.now)) → IfOk r (λ b. meaning b ≡ block_rows columns sees (seen block))
-  rows_read block result page r (inl memory) e rows = cc
-  rows_read block result page r (inr answer) e rows =
+  pub rows_read : (block : Option (List ℕ)) (result : Result (Bor (List ℕ)) PoolFault) (page : Bor (List ℕ)) (r : Result RowsRead NoMemory) → read result ≡ page_answer block → result ≡ Ok page → IfOk r (λ b. meaning b ≡ rows_from columns sees 1 (items_of page.now)) → IfOk r (λ b. meaning b ≡ block_rows columns sees (seen block))
+  rows_read block result page r answer e rows =
       let same : rows_from columns sees 1 (items_of page.now) ≡ block_rows columns sees (seen block) = rows_of block page.now (ap read (sym e) ∙ answer) in
       IfOk-weaker r _ _ (λ b is. is ∙ same) rows
 
-  -- a block whose page is not lent has no rows, unless memory ran out
-  pub none_read : (block : Option (List ℕ)) (result : Result (Bor (List ℕ)) PoolFault) (fault : PoolFault) (r : Result RowsRead NoMemory) → IsAnswer result block → result ≡ Err fault → IfOk r (λ b. meaning b ≡ ends NoPage) → OnOk r (fault ≢ Memory) → IfOk r (λ b. meaning b ≡ block_rows columns sees (seen block))
-  none_read block result fault (Ok b) (inl memory) e rows not_memory = absurd (not_memory (cc))
-  none_read block result fault (Ok b) (inr answer) e rows not_memory = rows ∙ none_of block fault (ap read (sym e) ∙ answer)
-  none_read block result fault (Err out) answer e rows not_memory = rows
+  -- a block whose page is not lent has no rows
+  pub none_read : (block : Option (List ℕ)) (result : Result (Bor (List ℕ)) PoolFault) (fault : PoolFault) (r : Result RowsRead NoMemory) → read result ≡ page_answer block → result ≡ Err fault → IfOk r (λ b. meaning b ≡ ends NoPage) → IfOk r (λ b. meaning b ≡ block_rows columns sees (seen block))
+  none_read block result fault (Ok b) answer e rows = rows ∙ none_of block fault (ap read (sym e) ∙ answer)
+  none_read block result fault (Err out) answer e rows = rows

@@ -7,6 +7,3 @@ mod rows;
 
 pub use block::read_block;
 pub use rows::{BlockEnd, BlockRows, Rows};
-
-#[cfg(test)]
-mod tests;

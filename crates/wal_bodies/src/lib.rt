@@ -18,6 +18,3 @@ pub use lists::{Lines, NewTuples, RecBlocks};
 pub use rec::one_form;
 pub use typed::body;
 pub use types::{BodyFault, NewTuple, Rec, RecBlock, RecKind, What};
-
-#[cfg(test)]
-mod tests;

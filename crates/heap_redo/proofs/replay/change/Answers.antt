@@ -17,13 +17,11 @@ returns-in-Ok-clause-answer c =
     let blocks = content c.args.pool.now in
     let bytes = c.change_page.new.page in
     let held = (c.page.follows.holds bytes (ap is_ok c.in-Ok.is)).blocks in
-    let there : blocks tag.table tag.block ≡ Some c.in-Ok.page.now = elim c.in-Ok.ensures.answer [
-      | inl bad ↦ cc
-      | inr e ↦ page-there (blocks tag.table tag.block) c.in-Ok.page.now e
-    ] in
-    inr (page-outcome rec block (view_of blocks) tag c.requires.anew (view_of (content (c.page.follows.lender bytes))) bytes
+    let there : blocks tag.table tag.block ≡ Some c.in-Ok.page.now =
+    page-there (blocks tag.table tag.block) c.in-Ok.page.now c.in-Ok.ensures.answer in
+    page-outcome rec block (view_of blocks) tag c.requires.anew (view_of (content (c.page.follows.lender bytes))) bytes
     (ap view_of held ∙ view-with_block blocks tag bytes) c.change_page.result (redone_block rec block (seen (blocks tag.table tag.block)))
-    (c.change_page.ensures.answer ∙ ap (λ here. fault_by rec block (redone_block rec block (seen here))) (sym there)))
+    (c.change_page.ensures.answer ∙ ap (λ here. fault_by rec block (redone_block rec block (seen here))) (sym there))
 
 pub returns-in-Ok-clause-err : goal.returns-in-Ok-clause-err
 returns-in-Ok-clause-err c =
@@ -31,10 +29,8 @@ returns-in-Ok-clause-err c =
     let blocks = content c.args.pool.now in
     let bytes = c.change_page.new.page in
     let held = (c.page.follows.holds bytes (ap is_ok c.in-Ok.is)).blocks in
-    let there : blocks tag.table tag.block ≡ Some c.in-Ok.page.now = elim c.in-Ok.ensures.answer [
-      | inl bad ↦ cc
-      | inr e ↦ page-there (blocks tag.table tag.block) c.in-Ok.page.now e
-    ] in
+    let there : blocks tag.table tag.block ≡ Some c.in-Ok.page.now =
+    page-there (blocks tag.table tag.block) c.in-Ok.page.now c.in-Ok.ensures.answer in
     on_err_weaker c.change_page.result (λ same. held ∙ ap (with_block blocks tag) same ∙ with_block-same blocks tag c.in-Ok.page.now there) c.change_page.ensures.err
 
 pub returns-in-Err-clause-answer : goal.returns-in-Err-clause-answer
@@ -44,9 +40,5 @@ returns-in-Err-clause-answer c =
     let tag = c.args.tag in
     let blocks = content c.args.pool.now in
     let fault = c.in-Err.fault in
-    elim c.in-Err.ensures.answer [
-      | inl memory ↦ let same : fault ≡ NoRoom = cc in
-          inl (err-is c.pool_fault.result Memory (c.pool_fault.ensures ∙ ap (pool_fault_at rec block) same))
-      | inr e ↦ inr (err-is c.pool_fault.result (pool_fault_at rec block fault) c.pool_fault.ensures
-          ∙ missing-outcome rec block (view_of blocks) tag (below-last block.block c.requires.block) c.requires.anew c.requires.left (blocks tag.table tag.block) fault e)
-    ]
+    err-is c.pool_fault.result (pool_fault_at rec block fault) c.pool_fault.ensures
+    ∙ missing-outcome rec block (view_of blocks) tag (below-last block.block c.requires.block) c.requires.anew c.requires.left (blocks tag.table tag.block) fault c.in-Err.ensures.answer

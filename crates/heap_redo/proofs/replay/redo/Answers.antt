@@ -1,4 +1,5 @@
-use Rattle.std.proofs.Common.{arith, ap, sym, refl, ◌∙◌, ◌≡◌, inl, inr, subst, take, Ok, Err, Result}
+use Rattle.std.proofs.Common.{arith, ap, sym, refl, ◌∙◌, ◌≡◌, inl, inr, subst, take, Ok, Err, Result, IsOk, length, slice_get}
+use Rattle.std.proofs.lemmas.Option.{slice_get_read}
 use Rattle.std.proofs.lemmas.Grind.{common_steps}
 use Rattle.page_store.specs.Content.{content}
 use Rattle.heap_redo.specs.declared.fault.RedoFault.{RedoFault}
@@ -38,11 +39,14 @@ returns-in_err-redo_block-clause-answer c =
     let P : Result (Unit {0}) RedoFault → Type 0 = λ result. Stands rec known old next result in
     subst P (sym answer) (elim c.in_err-redo_block.ensures.answer [
       | inl memory ↦ inl (
-        memory,
+        memory.0,
         record {
           done = k;
           stands = ap (λ xs. redone rec known (take k xs) old) (sym c.as_slice-block-items.ensures) ∙ c.loop-block.invariant.done
               ∙ ap (λ view. let o : Outcome = (view, Ok tt) in o) (sym same);
+          next = c.block-item.result;
+          is_next = ap (λ xs. slice_get xs k) (sym c.as_slice-block-items.ensures) ∙ slice_get_read items (length items) k c.block-item.result refl (omega arith) c.block-item.is;
+          not_refused = subst (λ (view : View). IsOk (redone_at rec known c.block-item.result view)) (sym same) memory.1;
         },
       )
       | inr e ↦ inr (ap (λ xs. redone rec known xs old) (sym c.as_slice-block-items.ensures)

@@ -5,7 +5,7 @@ use Rattle.heap_redo.specs.Refused.{fault_at}
 use Rattle.page_store.specs.Content.{content}
 use Rattle.heap_redo.specs.Redone.{view_of, redone_block, redone_in, redone_at, view_by}
 use Rattle.heap_redo.proofs.OneBlock.{other-block, last-refused, left-kept}
-use Rattle.heap_redo.proofs.Views.{left-outcome, err-is}
+use Rattle.heap_redo.proofs.Views.{left-outcome, err-is, followed}
 use Rattle.heap_redo.proofs.replay.redo_block.Goals as goal
 
 pub returns-in_default-clause-answer : goal.returns-in_default-clause-answer
@@ -42,10 +42,7 @@ returns-then-is_anew-clause-answer c =
     let rec = c.args.rec.now in
     let block = c.args.block.now in
     let view = view_of (content c.args.pool.now) in
-    elim c.remake.ensures.answer [
-      | inl memory ↦ inl memory
-      | inr e ↦ inr (e ∙ ap (redone_in rec block view) c.in-Some.ensures.value)
-    ]
+    followed (view_of (content c.remake.new.pool)) c.remake.result _ _ (ap (redone_in rec block view) c.in-Some.ensures.value) c.remake.ensures.answer
 
 pub returns-else-is_anew-clause-answer : goal.returns-else-is_anew-clause-answer
 unfolding redone_at
@@ -53,7 +50,4 @@ returns-else-is_anew-clause-answer c =
     let rec = c.args.rec.now in
     let block = c.args.block.now in
     let view = view_of (content c.args.pool.now) in
-    elim c.change.ensures.answer [
-      | inl memory ↦ inl memory
-      | inr e ↦ inr (e ∙ ap (redone_in rec block view) c.in-Some.ensures.value)
-    ]
+    inr (c.change.ensures.answer ∙ ap (redone_in rec block view) c.in-Some.ensures.value)

@@ -7,4 +7,4 @@ returns-in-Ok-clause-rows g c =
 
 pub returns-in-Err-clause-rows : goal.returns-in-Err-clause-rows
 returns-in-Err-clause-rows g c =
-    none_read _ _ _ c.look.result c.in-Err.fault c.no_page.result c.look.ensures.answer c.in-Err.is c.no_page.ensures.rows c.no_page.ensures.ok
+    none_read _ _ _ c.look.result c.in-Err.fault c.no_page.result c.look.ensures.answer c.in-Err.is c.no_page.ensures.rows

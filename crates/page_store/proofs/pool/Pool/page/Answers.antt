@@ -1,4 +1,4 @@
-use Rattle.std.proofs.Common.{arith, inr, refl}
+use Rattle.std.proofs.Common.{arith, refl}
 use Rattle.page_store.specs.Content.{table_count, content}
 use Rattle.std.specs.Vec.{with_item}
 use Rattle.page_store.specs.Lending.{with_page}
@@ -28,5 +28,5 @@ returns c =
         }) refl),
         tt,
       ),
-      record { lends = tt; answer = inr (answered-page (content pool tag.table tag.block) bytes held page); page = page },
+      record { lends = tt; answer = answered-page (content pool tag.table tag.block) bytes held page; page = page },
     )

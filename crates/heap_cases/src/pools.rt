@@ -1,0 +1,129 @@
+ghost use Rattle.std.specs.Prelude.{◌≡◌, ◌<◌, IfOk};
+ghost use Rattle.page_store.specs.Content.{table_count};
+
+use crate::items::ShowPage;
+use crate::pages::{change_page, set_byte};
+use case_text::{Wrong, number_u16, number_u32};
+use page_store::{Pool, PoolFault};
+use pg_types::Tag;
+use std::alloc::Global;
+
+/// Answers a line about the blocks of the two tables: the line's first words name a table, from 0, and a
+/// block.
+pub fn answer(alloc: Global, pool: &mut Pool, words: &[&str]) -> Result<String, Wrong>
+    requires { table_count pool.old ≡ 2 }
+    ensures { table_count pool.new ≡ 2 }
+{
+    match *words {
+        ["blocks", table] => blocks(alloc, pool, number_u16(table)?),
+        ["look", table, block] => {
+            let tag = tag(table, block)?;
+            look(alloc, pool, tag)
+        }
+        ["fresh", table, block] => {
+            let tag = tag(table, block)?;
+            let text = fresh(pool, tag)?;
+            Ok(String::from_str(alloc, text)?)
+        }
+        ["byte", table, block, at, value] => {
+            let tag = tag(table, block)?;
+            let text = spoil(pool, tag, at, value)?;
+            Ok(String::from_str(alloc, text)?)
+        }
+        _ => changed(alloc, pool, words),
+    }
+}
+
+/// The block of a table.
+fn tag(table: &str, block: &str) -> Result<Tag, Wrong>
+    ensures { IfOk result (λ tag. tag.table < 2) }
+{
+    let table = number_u16(table)?;
+    let block = number_u32(block)?;
+    if table >= 2 {
+        return Err(Wrong::Number);
+    }
+    Ok(Tag { table, block })
+}
+
+fn blocks(alloc: Global, pool: &Pool, table: u16) -> Result<String, Wrong>
+    requires { table_count pool.now ≡ 2 }
+{
+    if table >= 2 {
+        return Err(Wrong::Number);
+    }
+    let count = pool.blocks(table);
+    Ok(format!(in alloc; "{count}")?)
+}
+
+/// The page of a block, or why it is not lent.
+fn look(alloc: Global, pool: &mut Pool, tag: Tag) -> Result<String, Wrong>
+    requires { tag.table < table_count pool.old }
+    ensures { table_count pool.new ≡ table_count pool.old }
+{
+    match pool.look(tag) {
+        Ok(page) => {
+            let text = ShowPage(page);
+            Ok(format!(in alloc; "{text}")?)
+        }
+        Err(fault) => Ok(String::from_str(alloc, shown(fault))?),
+    }
+}
+
+fn shown(fault: PoolFault) -> &'static str {
+    match fault {
+        PoolFault::Missing => "missing",
+        PoolFault::BadPage => "bad page",
+        PoolFault::Memory => "out of memory",
+    }
+}
+
+fn fresh(pool: &mut Pool, tag: Tag) -> Result<&'static str, Wrong>
+    requires { tag.table < table_count pool.old }
+    ensures { table_count pool.new ≡ table_count pool.old }
+{
+    if tag.block == u32::MAX {
+        return Err(Wrong::Number);
+    }
+    match pool.fresh(tag) {
+        Ok(_) => Ok("ok"),
+        Err(fault) => Ok(shown(fault)),
+    }
+}
+
+/// Puts a byte into a block's page, which may then be none.
+fn spoil(pool: &mut Pool, tag: Tag, at: &str, value: &str) -> Result<&'static str, Wrong>
+    requires { tag.table < table_count pool.old }
+    ensures { table_count pool.new ≡ table_count pool.old }
+{
+    match pool.page(tag) {
+        Ok(page) => set_byte(page, at, value),
+        Err(fault) => Ok(shown(fault)),
+    }
+}
+
+/// Changes the page of a block.
+fn changed(alloc: Global, pool: &mut Pool, words: &[&str]) -> Result<String, Wrong>
+    requires { table_count pool.old ≡ 2 }
+    ensures { table_count pool.new ≡ 2 }
+{
+    let Some((table, rest)) = words.split_first() else {
+        return Err(Wrong::Line);
+    };
+    let Some((block, rest)) = rest.split_first() else {
+        return Err(Wrong::Line);
+    };
+    let tag = tag(*table, *block)?;
+    let text = change(alloc, pool, tag, rest)?;
+    Ok(String::from_str(alloc, text)?)
+}
+
+fn change(alloc: Global, pool: &mut Pool, tag: Tag, words: &[&str]) -> Result<&'static str, Wrong>
+    requires { tag.table < table_count pool.old }
+    ensures { table_count pool.new ≡ table_count pool.old }
+{
+    match pool.page(tag) {
+        Ok(page) => change_page(alloc, page, words),
+        Err(fault) => Ok(shown(fault)),
+    }
+}
