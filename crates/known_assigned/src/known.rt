@@ -266,6 +266,3 @@ fn greatest_of(start: u64, first: u64, rest: &[Xid]) -> u64
     }
     most
 }
-
-#[cfg(test)]
-mod tests;

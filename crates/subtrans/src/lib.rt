@@ -141,38 +141,3 @@ impl Subtrans {
 pub fn topmost_is_the_end_of_parents()
     ensures { AlwaysFollowsParents }
 {}
-
-#[cfg(test)]
-mod tests {
-    use super::*;
-    use std::test::Fail;
-
-    #[test]
-    fn topmost_parents_set_replaced_and_forgotten(rt: HostRuntime) -> Result<(), Fail> {
-        let mut subs = Subtrans::new(rt.alloc());
-        assert_eq!(rt; subs.topmost(Xid(5)), Xid(5));
-        for (sub, parent) in [(20, 10), (30, 20), (25, 7), (40, 30), (25, 8)] {
-            subs.reserve(1)?;
-            assert!(rt; parent < sub);
-            subs.set_parent(Xid(sub), Xid(parent));
-        }
-        let table = [
-            (9, 9),
-            (10, 10),
-            (20, 10),
-            (25, 8),
-            (30, 10),
-            (40, 10),
-            (41, 41),
-        ];
-        for (xid, top) in table {
-            assert_eq!(rt; subs.topmost(Xid(xid)), Xid(top), "of {xid}");
-        }
-        subs.forget_below(Xid(30));
-        let table = [(20, 20), (25, 25), (30, 20), (40, 20)];
-        for (xid, top) in table {
-            assert_eq!(rt; subs.topmost(Xid(xid)), Xid(top), "of {xid} later");
-        }
-        Ok(())
-    }
-}

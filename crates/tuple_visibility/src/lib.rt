@@ -103,6 +103,3 @@ fn counts<S: Statuses>(snapshot: &Snapshot, statuses: &S, marked: bool, xid: Xid
     }
     marked || matches!(statuses.status(xid), Status::Committed)
 }
-
-#[cfg(test)]
-mod tests;

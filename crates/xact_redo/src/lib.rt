@@ -9,6 +9,3 @@ pub mod state;
 pub use records::redo;
 pub use room::reserve;
 pub use state::XactState;
-
-#[cfg(test)]
-mod tests;
