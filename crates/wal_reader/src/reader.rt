@@ -1,4 +1,4 @@
-ghost use Rattle.std.specs.Prelude.{◌≡◌, ◌+◌, ◌^◌, ◌<◌, ◌≤◌, ℕ, [], Some, None, Ok, Err, IfOk, IfSome, IfErr, IsSome, IsTrue};
+ghost use Rattle.std.specs.Prelude.{◌≡◌, ◌≢◌, ◌+◌, ◌^◌, ◌<◌, ◌≤◌, ℕ, [], Some, None, Ok, Err, IfOk, IfSome, IfErr, IsSome, IsTrue};
 ghost use Rattle.outside.specs.Faults.{Rose};
 ghost use Rattle.wal_page.specs.Page.{is_segment_size};
 ghost use Rattle.wal_record.specs.Decoded.{decoded};
@@ -78,6 +78,7 @@ impl Reader {
         ensures stays { LogStays (L.told log.old) (L.told log.new) (L.owner_of log.old) (L.owner_of log.new) (L.fault_count log.old) (L.fault_count log.new) }
         ensures same_log { L.same log.old log.new }
         ensures cause { result ≡ Err ReadFault.Log → Rose (L.fault_count log.old) (L.fault_count log.new) }
+        ensures uncounted { result ≢ Err ReadFault.Log → L.fault_count log.new ≡ L.fault_count log.old }
     {
         let lsn = self.at;
         next_of(lsn, self.advance(log))
@@ -113,6 +114,7 @@ impl Reader {
         ensures stays { LogStays (L.told log.old) (L.told log.new) (L.owner_of log.old) (L.owner_of log.new) (L.fault_count log.old) (L.fault_count log.new) }
         ensures same_log { L.same log.old log.new }
         ensures cause { result ≡ Err Refusal.Log → Rose (L.fault_count log.old) (L.fault_count log.new) }
+        ensures uncounted { result ≢ Err Refusal.Log → L.fault_count log.new ≡ L.fault_count log.old }
     {
         self.given = None;
         self.lent = None;
