@@ -4,7 +4,7 @@ ghost use Rattle.wal_page.specs.Page.{is_segment_size};
 ghost use Rattle.wal_record.specs.Decoded.{decoded};
 ghost use Rattle.wal_reader.specs.Step.{step};
 ghost use Rattle.wal_reader.specs.Calls.{LogStays, WhereTold};
-ghost use Rattle.wal_reader.specs.Standing.{Answers, IsLent, MovesOn, SaysGiven, StandsStill, lent_at, next_of, past, record_given, shown};
+ghost use Rattle.wal_reader.specs.Standing.{Answers, BearsPosition, IsLent, MovesOn, SaysGiven, StandsStill, lent_at, next_of, past, record_given, shown};
 
 use crate::source::Source;
 use crate::types::{Given, Next, ReadFault, Refusal, Stop};
@@ -72,6 +72,7 @@ impl Reader {
     /// where the log's faults rose.
     pub fn next<L: LogBytes>(&mut self, log: &mut L) -> Result<Next, ReadFault>
         ensures still { StandsStill self.old self.new result }
+        ensures bears { BearsPosition self.old.at result }
         ensures onward { IfOk result (MovesOn self.old.at) }
         ensures answer { WhereTold (L.told log.old) (L.owner_of log.old) self.old.source self.new.source
             (λ told. Answers result self.old.at (λ start. decoded self.new.source.text start self.old.prev) (step told self.old.at.0 self.old.prev)) }

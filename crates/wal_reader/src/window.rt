@@ -1,4 +1,4 @@
-ghost use Rattle.std.specs.Prelude.{◌≡◌, ◌≢◌, ◌+◌, ◌-◌, ◌%◌, ◌^◌, ◌<◌, ◌≤◌, ℕ, [], length, take, drop, Some, None, Ok, IfOk, IfSome, OnErr, IsTrue, Option, vec_len, if◌then◌else◌};
+ghost use Rattle.std.specs.Prelude.{◌≡◌, ◌≢◌, ◌+◌, ◌-◌, ◌%◌, ◌^◌, ◌<◌, ◌≤◌, ℕ, [], length, take, drop, Some, None, Ok, Err, IfOk, IfSome, OnErr, IsTrue, Option, vec_len, if◌then◌else◌};
 ghost use Rattle.outside.specs.Faults.{HasCause};
 ghost use Rattle.outside.specs.Log.{GivesBytes, FitsLog};
 ghost use Rattle.wal_reader.specs.Told.{told_bytes};
