@@ -101,6 +101,10 @@ Replays (Ok (Refused lsn what)) old new found = IsRefusedAs old new found what �
 Replays (Err Archive) old new found = new.blocks ≡ old.blocks
 Replays (Err Memory) old new found = MayBeRedone old new found
 
+-- where nothing is told of what stands at the node's position, the answer is that of something that may stand there
+abbrev pub ReplaysSome : Result Replayed NodeFault → Standby → Standby → Type 0
+ReplaysSome result old new = (found : Result Entry Stop) × Replays result old new found
+
 -- where no record was applied, all but the blocks, and what is kept of the log, is as before
 abbrev pub StaysUnlessApplied : Result Replayed NodeFault → Standby → Standby → Type 0
 StaysUnlessApplied (Ok (Applied start at cancelled)) old new = Unit {0}
