@@ -213,13 +213,13 @@ record_replays_some old between new reader start end result others replays =
 
 pub end_replays_some : (old new : Standby) (lsn : Lsn) (why : EndWhy) → new ≡ record old { kept = new.kept } → BearsPosition old.at (Ok (next.AtEnd lsn why))
     → ReplaysSome (Ok (AtEnd lsn why)) old new
-end_replays_some old new lsn why others bears = (Err (stop.End why), refl, bears, ap (λ (s : Standby). s.blocks) others)
+end_replays_some old new lsn why others bears = (Err (stop.End why), (refl, bears, ap (λ (s : Standby). s.blocks) others))
 
 pub refusal_replays_some : (old new : Standby) (found : ReadFault) → new ≡ record old { kept = new.kept } → BearsPosition old.at (Err found)
     → ReplaysSome (unread found) old new
 refusal_replays_some old new (fault.Compressed lsn) others bears =
-    (Err stop.Compressed, by_form stop.Compressed refl refl (ap (λ (s : Standby). s.blocks) others), bears)
+    (Err stop.Compressed, (by_form stop.Compressed refl refl (ap (λ (s : Standby). s.blocks) others), bears))
 refusal_replays_some old new (fault.TooLong lsn) others bears =
-    (Err stop.TooLong, by_form stop.TooLong refl refl (ap (λ (s : Standby). s.blocks) others), bears)
+    (Err stop.TooLong, (by_form stop.TooLong refl refl (ap (λ (s : Standby). s.blocks) others), bears))
 refusal_replays_some old new fault.Log others bears = (Err stop.TooLong, ap (λ (s : Standby). s.blocks) others)
 refusal_replays_some old new fault.Memory others bears = (Err stop.TooLong, inl (ap (λ (s : Standby). s.blocks) others))

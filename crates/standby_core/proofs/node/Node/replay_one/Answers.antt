@@ -1,7 +1,6 @@
 use Rattle.std.proofs.Common.{Ok, sym, subst}
 use Rattle.wal_archive.specs.ArchiveLog.{archived_bytes}
 use Rattle.standby_core.specs.View.{ReplaysTold, standby}
-use Rattle.wal_reader.specs.Standing.{BearsPosition}
 use Rattle.standby_core.specs.Replay.{ReplaysSome}
 use Rattle.standby_core.proofs.Replaying.{Reads, end_replays_some, record_replayed, record_replays_some, refusal_replayed, refusal_replays_some}
 use Rattle.standby_core.proofs.node.Node.replay_one.Goals as goal
