@@ -1,14 +1,12 @@
 -- A record that is read of bytes is of bytes: it is that of a spelling, whose parts are.
-use Rattle.std.proofs.Common.{◌≡◌, ℕ, ◌+◌, ◌^◌, ◌<◌, List, [], ◌∷◌, ◌++◌, All, Option, Some, None, Ok, sym, subst}
+use Rattle.std.proofs.Common.{ℕ, ◌+◌, ◌^◌, ◌<◌, List, [], ◌∷◌, All, Option, Some, None, sym, subst}
 use Rattle.std.specs.Prelude.{drop, take, option_map, IfSome}
 use Rattle.std.proofs.lemmas.List.Elements.{All-cons, All-drop, All-nil, All-take}
-use Rattle.wal_record.specs.declared.types.PrevRule.{PrevRule}
 use Rattle.wal_record.specs.declared.parts.Part.{Part}
 use Rattle.wal_record.specs.declared.parts.Part.TheVariants as part
 use Rattle.wal_record.specs.declared.parts.BlockHeader.{BlockHeader}
 use Rattle.wal_record.specs.declared.parts.ImageHeader.{ImageHeader}
 use Rattle.wal_record.specs.declared.parts.Seen.{Seen}
-use Rattle.wal_record.specs.Record.{Record}
 use Rattle.wal_record.specs.Parts.{image_length, after, start, seen_after}
 use Rattle.wal_record.specs.Decoded.{block_in, blocks_of, image_in}
 use Rattle.wal_record.specs.Spelling.{AreBytes, AreParts, IsSpelling, Spelling, record_of}
