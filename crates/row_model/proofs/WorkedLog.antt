@@ -1,16 +1,16 @@
 -- The worked log keeps to the rules, and its rows are as worked by hand.
-use Rattle.std.proofs.Common.{◌≡◌, ◌≢◌, ◌×◌, ℕ, ◌<◌, Bool, true, false, nat_lt, ◌==◌, ◌^◌, Some, None, List, [], ◌∷◌, All, filter, Result, Ok, Err, is_ok, arith, refl, sym, ap, ◌∙◌, subst, inl, inr}
+use Rattle.std.proofs.Common.{◌≡◌, ℕ, ◌<◌, Bool, true, false, nat_lt, ◌==◌, ◌^◌, None, List, [], ◌∷◌, All, filter, Result, Ok, Err, is_ok, arith, refl, sym, ap, ◌∙◌, subst, inl, inr}
 use Rattle.std.proofs.lemmas.Bool.{and_parts, eqb-true, ltb-true, false≢true, or_cases}
 use Rattle.std.proofs.lemmas.List.Elements.{All-cons, All-nil}
 use Rattle.std.proofs.lemmas.List.Sorted.{IsPermutation-refl}
 use Rattle.std.specs.List.Sorted.{IsPermutation}
-use Rattle.std.specs.List.{list_all, list_any}
+use Rattle.std.specs.List.{list_all}
 use Rattle.pg_types.specs.declared.names.Locator.{Locator}
 use Rattle.pg_types.specs.Numbers.{number_at}
 use Rattle.wal_bodies.specs.declared.types.NewTuple.{NewTuple}
 use Rattle.wal_bodies.specs.declared.types.RecBlock.{RecBlock}
 use Rattle.wal_bodies.specs.declared.types.Rec.{Rec}
-use Rattle.heap_tuple.specs.declared.tuple_view.MaxOf.TheVariants.{None as NoDeleter, Xid as DeletedBy}
+use Rattle.heap_tuple.specs.declared.tuple_view.MaxOf.TheVariants.{Xid as DeletedBy}
 use Rattle.heap_tuple.specs.Tuple.{is_lock_only, is_tuple, is_tuple_head, max_of}
 use Rattle.heap_page.specs.Item.{with_item}
 use Rattle.heap_page.specs.Put.{put_answer, set_head_answer}
@@ -19,12 +19,12 @@ use Rattle.heap_redo.specs.Redone.{View, grown, redone, redone_at, redone_block,
 use Rattle.transaction_model.specs.Transactions.{committed}
 use Rattle.wal_bodies.specs.After.{after, after_change, applied, change_head, changed, changed_page, joined, put, put_listed, put_version, tuple_of, update, update_old, update_within}
 use Rattle.wal_bodies.specs.HeapKinds.{same_locator}
-use Rattle.wal_bodies.specs.Heads.{head_bytes, head_of, marked_mask, marked_mask2}
-use Rattle.row_model.specs.TransactionsOf.{kind_of, transaction_of, transactions_of}
+use Rattle.wal_bodies.specs.Heads.{head_bytes, head_of, marked_mask, marked_mask2, replaced}
+use Rattle.row_model.specs.TransactionsOf.{kind_of, transaction_of}
 use Rattle.row_model.specs.Versions.{RowStep, Version, changed_at, version_at, with_step, with_steps}
 use Rattle.row_model.specs.Origins.{LogOrigin, committed_in}
 use Rattle.row_model.specs.Multixacts.{multixacts}
-use Rattle.row_model.specs.Locks.{drops, is_gone, locks, since, up_to_running}
+use Rattle.row_model.specs.Locks.{is_gone, locks, since, up_to_running}
 use Rattle.row_model.specs.RowSteps.{births, births_written, block_count, count_with, deleter_of_mark, own_steps, steps_in, update_steps, version_put, version_written, versions, view_after, view_with_record, whole_steps}
 use Rattle.row_model.specs.Rows.{IsInPlaceOrder, is_row}
 use Rattle.row_model.specs.LegalSteps.{BirthStep, DeleterStep, EachStep, KeepsTo, MultixactStep, RemovalStep, Takes, Unmarked}
@@ -225,9 +225,9 @@ worked_renews redo h =
     elim (or_cases (redo == 0) _ h) [
       | inl begins ↦ subst (λ (n : ℕ). renews_first worked_table n worked_log ≡ true) (sym (eqb-true redo 0 begins)) refl
       | inr later ↦ elim (or_cases (0x2000028 == redo) false later) [
-          | inl at ↦ subst (λ (n : ℕ). renews_first worked_table n worked_log ≡ true) (eqb-true 0x2000028 redo at) refl
-          | inr none ↦ absurd (false≢true none)
-        ]
+        | inl at ↦ subst (λ (n : ℕ). renews_first worked_table n worked_log ≡ true) (eqb-true 0x2000028 redo at) refl
+        | inr none ↦ absurd (false≢true none)
+      ]
     ]
 
 worked_legal_table : LegalTable worked_origin worked_log worked_table
@@ -239,7 +239,7 @@ answered_view (Ok view) h = (view, refl)
 answered_view (Err fault) h = absurd (false≢true h)
 
 worked_redone : is_ok (view_after worked_origin (worked_table ∷ []) worked_log) ≡ true
-unfolding view_after view_with_record redone redone_at redone_block after after_change changed_page changed put_listed put tuple_of head_bytes view_with with_seen grown put_answer set_head_answer change_head update update_within update_old put_version joined is_tuple is_tuple_head with_item number_at head_of marked_mask marked_mask2
+unfolding view_after view_with_record redone redone_at redone_block after after_change changed_page changed put_listed put tuple_of head_bytes view_with with_seen grown put_answer set_head_answer change_head update update_within update_old put_version joined is_tuple is_tuple_head with_item number_at head_of marked_mask marked_mask2 replaced
 worked_redone = refl
 
 -- the rows among these versions

@@ -1,6 +1,6 @@
 -- The access exclusive locks of a table that are in force after a log, and parts of a log.
 -- Sources: standby.c (LogAccessExclusiveLocks, StandbyReleaseLocks, StandbyReleaseOldLocks), storage/lmgr/README.
-use Rattle.std.specs.Prelude.{◌≡◌, ℕ, Bool, true, false, not, ◌==◌, ◌&&◌, nat_lt, List, [], ◌∷◌, ◌++◌, map, filter, reverse, Option, Some, None, if◌then◌else◌}
+use Rattle.std.specs.Prelude.{◌≡◌, ℕ, Bool, true, false, not, ◌==◌, ◌&&◌, nat_lt, List, [], ◌∷◌, ◌++◌, map, filter, reverse, if◌then◌else◌}
 use Rattle.std.specs.List.{list_any}
 use Rattle.pg_types.specs.declared.names.Locator.{Locator}
 use Rattle.wal_bodies.specs.declared.types.RecBlock.{RecBlock}

@@ -1,7 +1,6 @@
 -- What a tuple shows of a version of a row.
 -- Sources: htup_details.h, heapam_visibility.c (SetHintBits).
-use Rattle.std.specs.Prelude.{◌≡◌, ℕ, Bool, true, false, ◌==◌, List, drop, Option, Some, None}
-use Rattle.wal_record.specs.declared.new.NewImage.{NewImage}
+use Rattle.std.specs.Prelude.{◌≡◌, ℕ, true, false, List, drop, Option, Some, None}
 use Rattle.heap_tuple.specs.Tuple.{xmin_of, infomask_of, columns_of, has_bits, max_of}
 use Rattle.heap_tuple.specs.declared.tuple_view.MaxOf.{MaxOf}
 use Rattle.heap_page.specs.Item.{Item, normal, numbered, is_normal}

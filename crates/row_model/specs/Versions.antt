@@ -2,7 +2,7 @@
 -- Sources: heapam_xlog.h, htup_details.h, heapam.c (heap_insert, heap_update, heap_delete, heap_lock_tuple,
 -- heap_freeze_execute_prepared), pruneheap.c (heap_page_prune).
 use Rattle.std.specs.Prelude.{ℕ, ◌==◌, Bool, true, false, ◌&&◌, ◌||◌, bit_and, List, [], ◌∷◌, Option, Some, None, map, if◌then◌else◌}
-use Rattle.heap_tuple.specs.Tuple.{has_bits, infomask2_of, infomask_of, is_lock_only, max_of, xmax_of, xmin_of}
+use Rattle.heap_tuple.specs.Tuple.{has_bits, is_lock_only, max_of, xmin_of}
 use Rattle.heap_tuple.specs.declared.tuple_view.MaxOf.{MaxOf}
 use Rattle.heap_tuple.specs.declared.tuple_view.MaxOf.TheVariants.{None as NoDeleter, Xid as DeletedBy, Multi}
 use Rattle.tuple_visibility.specs.Visible.{xmin_marks}
@@ -39,10 +39,6 @@ pub record FreezePlan : Type 0 where
   pub xmax : ℕ
   pub mask2 : ℕ
   pub mask : ℕ
-
--- that of a tuple that is shown
-abbrev pub plan_in : List ℕ → FreezePlan
-plan_in tuple = record { xmax = xmax_of tuple; mask2 = infomask2_of tuple; mask = infomask_of tuple }
 
 -- whether a tuple with the plan is marked frozen
 abbrev pub freezes : FreezePlan → Bool
