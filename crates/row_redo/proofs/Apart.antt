@@ -1,14 +1,14 @@
 -- Each place has at most one version, each version is sound, and one that lost its place is no row, once steps were made.
 use Rattle.std.proofs.Common.{◌≡◌, ◌≢◌, ℕ, ◌+◌, ◌≤◌, Bool, true, false, ◌&&◌, ◌==◌, cond, List, [], ◌∷◌, All, Option, Some, None, arith, refl, sym, ap, ◌∙◌, subst}
-use Rattle.std.proofs.lemmas.Bool.{and_parts, and_left, both_ways, eqb-true, false≢true}
+use Rattle.std.proofs.lemmas.Bool.{and_parts, both_ways, eqb-true, false≢true}
 use Rattle.std.proofs.lemmas.List.Elements.{All-cons, All-nil}
 use Rattle.std.proofs.lemmas.List.Sums.{sum_by-cons}
 use Rattle.wal_bodies.specs.declared.types.Rec.{Rec}
-use Rattle.heap_tuple.specs.Tuple.{max_of}
+use Rattle.heap_tuple.specs.Tuple.{xmin_of}
 use Rattle.transaction_model.specs.LegalTransactions.{Legal}
 use Rattle.row_model.specs.TransactionsOf.{transactions_of}
-use Rattle.row_model.specs.Versions.{Version, Nobody, By, RowStep, Born, Deleter, Undone, Removed, Frozen, deleter_of_plan, freezes, frozen_by, inserter_in, is_frozen, removed, taken_back, version_born, is_at, version_at, changed_at, with_deleter, with_step, with_steps}
-use Rattle.row_model.specs.Origins.{LogOrigin, IsLive, committed_in}
+use Rattle.row_model.specs.Versions.{Version, Always, By, FreezePlan, RowStep, Born, Deleter, Undone, Removed, Frozen, deleter_of_plan, frozen_by, inserter_in, is_frozen, removed, taken_back, version_born, is_at, version_at, changed_at, with_deleter, with_step, with_steps}
+use Rattle.row_model.specs.Origins.{LogOrigin, committed_in}
 use Rattle.row_model.specs.Multixacts.{WasMade}
 use Rattle.row_model.specs.Rows.{counts}
 use Rattle.row_model.specs.Shown.{IsLost, IsSound, count_at}
@@ -159,7 +159,7 @@ sound_born from log w false x v first rest e = rest v e
 
 -- one that is born frozen counts always
 born_counts : (from : LogOrigin) (log : List Rec) (tuple : List ℕ) → is_frozen tuple ≡ true → counts (committed_in from log) (inserter_in tuple) ≡ true
-born_counts from log tuple frozen = ap (λ (t : Bool). counts (committed_in from log) (cond t _ (By _))) frozen
+born_counts from log tuple frozen = ap (λ (t : Bool). counts (committed_in from log) (cond t Always (By (xmin_of tuple)))) frozen
 
 drop_found : (b l : ℕ) (x : Option Version) (v : Version) → dropped b l x ≡ Some v → x ≡ Some v
 drop_found b l None v e = cc
@@ -185,7 +185,7 @@ plan_counts from log horizon w false is before newly =
     let (x, by, done) = newly is in ap (counts (committed_in from log)) by ∙ done
 
 frozen_sound :
-    (from : LogOrigin) (log : List Rec) (horizon : ℕ) (plan : _) (w : Version) → PlanRule from log horizon plan w
+    (from : LogOrigin) (log : List Rec) (horizon : ℕ) (plan : FreezePlan) (w : Version) → PlanRule from log horizon plan w
     → WasMade log (deleter_of_plan plan) → IsSound from log w → IsSound from log (frozen_by plan w)
 frozen_sound from log horizon plan w rule made sound =
     record {

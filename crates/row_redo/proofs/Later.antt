@@ -1,5 +1,5 @@
 -- What a tuple shows after a log, it shows after one record more.
-use Rattle.std.proofs.Common.{◌≡◌, inl, inr, ℕ, Bool, true, false, not, ◌&&◌, ◌||◌, ◌==◌, List, [], ◌∷◌, Option, Some, None, refl, sym, ap, ◌∙◌}
+use Rattle.std.proofs.Common.{◌≡◌, inl, inr, ℕ, true, false, not, ◌||◌, ◌==◌, List, [], ◌∷◌, Option, Some, None, refl, sym, ap, ◌∙◌}
 use Rattle.std.proofs.lemmas.Bool.{and_left, and_right, or_cases, or_left, or_right, or_from, both_ways, false_from_ne_true, false≢true}
 use Rattle.wal_bodies.specs.declared.types.Rec.{Rec}
 use Rattle.heap_tuple.specs.declared.tuple_view.MaxOf.{MaxOf}

@@ -1,5 +1,5 @@
 -- One change of a block's line goes with one step of its versions.
-use Rattle.std.proofs.Common.{◌≡◌, ◌≢◌, inl, inr, ℕ, ◌^◌, ◌<◌, ◌==◌, Bool, true, false, List, ◌∷◌, Option, Some, None, option_map, Ok, refl, sym, ap, subst, subst₂, ◌∙◌, arith, if◌then◌else◌}
+use Rattle.std.proofs.Common.{◌≡◌, ◌≢◌, inl, inr, ℕ, ◌^◌, ◌<◌, Bool, true, false, List, ◌∷◌, Option, Some, None, option_map, Ok, refl, sym, ap, subst, subst₂, ◌∙◌, arith, if◌then◌else◌}
 use Rattle.std.proofs.lemmas.Bool.{cases_eq, eqb-true, false≢true}
 use Rattle.heap_tuple.specs.Tuple.{IsTuple, xmin_of, max_of}
 use Rattle.heap_page.specs.Item.{Item, normal, numbered, is_normal}
@@ -9,7 +9,7 @@ use Rattle.row_model.specs.Origins.{LogOrigin}
 use Rattle.wal_bodies.specs.Fields.{has}
 use Rattle.wal_bodies.specs.Heads.{Head, head_of, pointing_to, deleted}
 use Rattle.wal_bodies.specs.After.{put, change_head}
-use Rattle.row_model.specs.Versions.{Version, Inserter, Nobody, Always, By, Born, Deleter, Undone, is_frozen, taken_back, version_at, version_born, changed_at, with_deleter, with_step}
+use Rattle.row_model.specs.Versions.{Version, Always, By, Born, Deleter, Undone, is_frozen, taken_back, version_at, version_born, changed_at, with_deleter, with_step}
 use Rattle.row_model.specs.RowSteps.{deleter_of_mark}
 use Rattle.row_model.specs.Shows.{ShowsInserter, ShowsDeleter, Shows, ShowsPlace, ShowsBlock}
 use Rattle.row_model.specs.LegalSteps.{BirthMarks, BirthRule, BornFrozen, IsSpent, Unmarked}

@@ -112,16 +112,16 @@ removed_first b l block line v rest vs false false e f same =
     ap (λ (k : Bool). cond k (Some v) (version_at block line rest)) f ∙ same
     ∙ sym (ap (λ (k : Bool). dropped b l (cond k (Some v) (version_at block line vs))) f)
 
+removed_none : (b l block line : ℕ) → version_at block line [] ≡ dropped b l (version_at block line [])
+unfolding version_at
+removed_none b l block line = refl
+
 -- what stands at a place once the version at this one lost its own
 pub at_removed :
     (b l block line : ℕ) (vs : List Version)
     → version_at block line (changed_at b l removed vs) ≡ dropped b l (version_at block line vs)
 unfolding changed_at
-at_removed b l block line [] = at_none
-  where
-    at_none : version_at block line [] ≡ dropped b l (version_at block line [])
-    unfolding version_at
-    at_none = refl
+at_removed b l block line [] = removed_none b l block line
 at_removed b l block line (v ∷ vs) =
     removed_first b l block line v (changed_at b l removed vs) vs (is_at b l v) (is_at block line v) refl refl
     (at_removed b l block line vs)

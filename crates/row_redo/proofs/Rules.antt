@@ -1,8 +1,8 @@
 -- The rules of the legal log for one step of a record, taken together.
-use Rattle.std.proofs.Common.{◌≡◌, ℕ, List, [], ◌∷◌, ◌++◌, Option, sym, ◌∙◌, subst}
+use Rattle.std.proofs.Common.{ℕ, List, [], ◌∷◌}
 use Rattle.pg_types.specs.declared.names.Locator.{Locator}
 use Rattle.wal_bodies.specs.declared.types.Rec.{Rec}
-use Rattle.row_model.specs.Versions.{Version, RowStep, Born, Deleter, Undone, Removed, Frozen, with_step, with_steps}
+use Rattle.row_model.specs.Versions.{Version, RowStep, with_step}
 use Rattle.row_model.specs.Origins.{LogOrigin}
 use Rattle.row_model.specs.LegalSteps.{BirthStep, DeleterStep, EachStep, MultixactStep, RemovalStep}
 
