@@ -2,7 +2,7 @@
 -- transactions, and of each described table's rows, blocks and locks.
 -- Sources: heapam.c, heapam_visibility.c (SetHintBits), xloginsert.c (XLogRegisterBuffer, XLogRecordAssemble), xlog.c
 -- (CreateCheckPoint), standby.c (LogStandbySnapshot), storage.c (RelationTruncate), multixact.c.
-use Rattle.std.specs.Prelude.{◌≡◌, ◌≢◌, ◌⊎◌, ℕ, ◌<◌, ◌^◌, Bool, true, false, ◌==◌, not, ◌&&◌, ◌||◌, nat_lt, bit_and, List, [], ◌∷◌, All, Option, Some, None, Ok, if◌then◌else◌}
+use Rattle.std.specs.Prelude.{◌≡◌, ◌≢◌, ◌⊎◌, ℕ, ◌<◌, ◌^◌, Bool, true, false, ◌==◌, not, ◌&&◌, ◌||◌, nat_lt, List, [], ◌∷◌, All, Option, Some, None, Ok, if◌then◌else◌}
 use Rattle.std.specs.List.{list_all, list_any}
 use Rattle.pg_types.specs.declared.names.Locator.{Locator}
 use Rattle.wal_record.specs.declared.new.NewImage.{NewImage}
@@ -17,7 +17,7 @@ use Rattle.wal_bodies.specs.After.{applied}
 use Rattle.heap_redo.specs.Redone.{View, is_anew, is_left}
 use Rattle.transaction_model.specs.Transactions.{Kind, Commit, Abort, Assignment, Running, Shutdown, Online, Other}
 use Rattle.transaction_model.specs.LegalTransactions.{Legal}
-use Rattle.row_model.specs.TransactionsOf.{kind_of, transactions_of}
+use Rattle.xact_redo.specs.TransactionsOf.{is_shutdown, kind_of, transactions_of}
 use Rattle.row_model.specs.Versions.{Version, version_at}
 use Rattle.row_model.specs.Origins.{LogOrigin, IsLive}
 use Rattle.row_model.specs.Multixacts.{NewMultixact, NewMultixactRule, made_by}
@@ -141,7 +141,7 @@ pub record LegalTable (o : LogOrigin) (log : List Rec) (table : Locator) : Type 
 -- a shutdown checkpoint's redo is its own start
 abbrev pub is_redo_at : RecordHead → ℕ → RecKind → Bool
 is_redo_at head start (Checkpoint redo timeline previous writes next multi member oldest active) =
-    if bit_and head.info 0xF0 == 0x00 then redo.0 == start else true
+    if is_shutdown head then redo.0 == start else true
 is_redo_at head start _ = true
 
 abbrev pub is_redo_own : Rec → Bool

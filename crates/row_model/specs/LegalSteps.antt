@@ -13,7 +13,7 @@ use Rattle.heap_tuple.specs.declared.tuple_view.MaxOf.{MaxOf}
 use Rattle.heap_page.specs.Put.{with_head}
 use Rattle.tuple_visibility.specs.Visible.{xmin_marks}
 use Rattle.transaction_model.specs.Transactions.{Statuses, TransactionRecord, Live, commits}
-use Rattle.row_model.specs.TransactionsOf.{transactions_of}
+use Rattle.xact_redo.specs.TransactionsOf.{transactions_of}
 use Rattle.row_model.specs.Versions.{Version, Inserter, Nobody, Always, By, FreezePlan, RowStep, Born, Deleter, Undone, Removed, Frozen, deleter_of_plan, freezes, frozen_by, is_frozen, version_at, with_step}
 use Rattle.row_model.specs.Origins.{LogOrigin, HasFailed, IsLive, IsSameTree, committed_in}
 use Rattle.row_model.specs.Multixacts.{WasMade, deleter_in}

@@ -7,6 +7,5 @@ pub mod RowSteps
 pub mod Rows
 pub mod Shown
 pub mod Shows
-pub mod TransactionsOf
 pub mod Versions
 pub mod WorkedRows

@@ -9,7 +9,7 @@ use Rattle.wal_bodies.specs.declared.types.RecKind.{RecKind}
 use Rattle.wal_bodies.specs.HeapKinds.{same_locator}
 use Rattle.heap_redo.specs.Redone.{is_left}
 use Rattle.transaction_model.specs.Transactions.{Kind, Commit, Abort, Assignment, Running, Shutdown, Online, Other, ends}
-use Rattle.row_model.specs.TransactionsOf.{kind_of}
+use Rattle.xact_redo.specs.TransactionsOf.{kind_of}
 use Rattle.row_model.specs.Origins.{LogOrigin, IsLive, IsSameTree}
 
 -- the records that start at a position or past it

@@ -6,7 +6,7 @@ use Rattle.wal_bodies.specs.declared.types.Rec.{Rec}
 use Rattle.heap_redo.specs.Redone.{Seen, absent}
 use Rattle.transaction_model.specs.Transactions.{Live, committed, ended}
 use Rattle.transaction_model.specs.LegalTransactions.{Origin}
-use Rattle.row_model.specs.TransactionsOf.{transactions_of}
+use Rattle.xact_redo.specs.TransactionsOf.{transactions_of}
 use Rattle.row_model.specs.Versions.{Version}
 
 -- a table where a log begins: the versions of its rows, how many blocks it has, and these blocks

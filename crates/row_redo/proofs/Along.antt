@@ -8,7 +8,7 @@ use Rattle.wal_bodies.specs.declared.types.Rec.{Rec}
 use Rattle.heap_redo.specs.declared.fault.RedoFault.{RedoFault}
 use Rattle.heap_redo.specs.Redone.{Seen, absent, View, Outcome, redone, table_of, view_outcome}
 use Rattle.transaction_model.specs.LegalTransactions.{Legal}
-use Rattle.row_model.specs.TransactionsOf.{transactions_of}
+use Rattle.xact_redo.specs.TransactionsOf.{transactions_of}
 use Rattle.row_model.specs.Versions.{RowStep, Version, with_steps, version_at}
 use Rattle.row_model.specs.Origins.{BeginsEmpty, LogOrigin, TableOrigin}
 use Rattle.row_model.specs.RowSteps.{block_count, blocks_of, count_with, steps_of, versions, view_after, view_before, view_with_record}

@@ -6,7 +6,7 @@ use Rattle.std.proofs.lemmas.List.Sums.{sum_by-cons}
 use Rattle.wal_bodies.specs.declared.types.Rec.{Rec}
 use Rattle.heap_tuple.specs.Tuple.{xmin_of}
 use Rattle.transaction_model.specs.LegalTransactions.{Legal}
-use Rattle.row_model.specs.TransactionsOf.{transactions_of}
+use Rattle.xact_redo.specs.TransactionsOf.{transactions_of}
 use Rattle.row_model.specs.Versions.{Version, Always, By, FreezePlan, RowStep, Born, Deleter, Undone, Removed, Frozen, deleter_of_plan, frozen_by, inserter_in, is_frozen, removed, taken_back, version_born, is_at, version_at, changed_at, with_deleter, with_step, with_steps}
 use Rattle.row_model.specs.Origins.{LogOrigin, committed_in}
 use Rattle.row_model.specs.Multixacts.{WasMade}

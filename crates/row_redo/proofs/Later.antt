@@ -7,7 +7,7 @@ use Rattle.heap_tuple.specs.declared.tuple_view.MaxOf.TheVariants.{None as NoDel
 use Rattle.heap_page.specs.Item.{Item, numbered}
 use Rattle.transaction_model.specs.Transactions.{Kind, Commit, Abort, Assignment, Running, Shutdown, Online, Other, TransactionRecord, Statuses, commits, ends, committed, ended, Live}
 use Rattle.transaction_model.specs.LegalTransactions.{Origin, RuleOf, Legal}
-use Rattle.row_model.specs.TransactionsOf.{transaction_of, transactions_of}
+use Rattle.xact_redo.specs.TransactionsOf.{transaction_of, transactions_of}
 use Rattle.row_model.specs.Versions.{Version, Inserter, Nobody, Always, By, version_at}
 use Rattle.row_model.specs.Origins.{LogOrigin, HasFailed, IsLive, committed_in}
 use Rattle.row_model.specs.Multixacts.{WasMade, deleter_in, multixacts}

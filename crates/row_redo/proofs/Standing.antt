@@ -6,7 +6,7 @@ use Rattle.heap_redo.specs.Redone.{Seen, absent, bad_block, seen_page}
 use Rattle.wal_bodies.specs.declared.types.Rec.{Rec}
 use Rattle.row_model.specs.Origins.{LogOrigin}
 use Rattle.transaction_model.specs.LegalTransactions.{Legal}
-use Rattle.row_model.specs.TransactionsOf.{transactions_of}
+use Rattle.xact_redo.specs.TransactionsOf.{transactions_of}
 use Rattle.row_model.specs.Versions.{Version, version_at}
 use Rattle.row_model.specs.Shows.{ShowsPlace, ShowsBlock}
 use Rattle.row_model.specs.Shown.{HasNone, ShowsSeen, ShowsTable}

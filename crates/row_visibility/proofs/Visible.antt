@@ -16,7 +16,7 @@ use Rattle.row_model.specs.Multixacts.{WasMade, deleter_in, multixacts}
 use Rattle.row_model.specs.Rows.{counts as inserter_is_in, is_deleted, is_row}
 use Rattle.row_model.specs.Shows.{AreMarksTrue, Shows, ShowsDeleter, ShowsInserter}
 use Rattle.row_model.specs.Shown.{IsSound}
-use Rattle.row_model.specs.TransactionsOf.{transactions_of}
+use Rattle.xact_redo.specs.TransactionsOf.{transactions_of}
 use Rattle.xact_redo.specs.Sees.{no_multixacts}
 use Rattle.row_visibility.specs.Sees.{SeesRows, state_along}
 use Rattle.row_visibility.proofs.Along.{decided_along}
