@@ -12,7 +12,7 @@ use Rattle.seq_scan.specs.BlockRows.{BlockRows}
 use Rattle.xact_redo.specs.Sees.{sees}
 use Rattle.xact_redo.specs.State.{TransactionState}
 use Rattle.transaction_model.specs.Transactions.{Statuses, TransactionRecord, state_of}
-use Rattle.row_model.specs.TransactionsOf.{transactions_of}
+use Rattle.xact_redo.specs.TransactionsOf.{transactions_of}
 use Rattle.row_model.specs.Versions.{Version}
 use Rattle.row_model.specs.RowSteps.{block_count, versions}
 use Rattle.row_model.specs.Shown.{ShowsSeen, ShowsTable}

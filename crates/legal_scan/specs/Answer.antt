@@ -10,7 +10,7 @@ use Rattle.heap_redo.specs.Redone.{View}
 use Rattle.seq_scan.specs.BlockRows.{BlockRows}
 use Rattle.transaction_model.specs.Transactions.{committed, state_of}
 use Rattle.transaction_model.specs.LegalTransactions.{Origin}
-use Rattle.row_model.specs.TransactionsOf.{transactions_of}
+use Rattle.xact_redo.specs.TransactionsOf.{transactions_of}
 use Rattle.row_model.specs.Versions.{Version}
 use Rattle.row_model.specs.RowSteps.{block_count, versions}
 use Rattle.row_model.specs.Rows.{IsRows}

@@ -5,7 +5,7 @@ use Rattle.known_assigned.specs.Ids.{is_among}
 use Rattle.known_assigned.specs.declared.state.RunningHead.{RunningHead}
 use Rattle.transaction_model.specs.Transactions.{TransactionRecord, committed, ended, Live, seen}
 use Rattle.transaction_model.specs.LegalTransactions.{CommitRule, Legal, OnlineRule, OriginRule, RunningRule, before, greatest_next, last_redo, starts_at}
-use Rattle.row_model.specs.TransactionsOf.{transaction_of, transactions_of}
+use Rattle.xact_redo.specs.TransactionsOf.{transaction_of, transactions_of}
 use Rattle.row_model.specs.WorkedRows.{insert_by_700, nothing_runs, online_checkpoint, update_by_701, worked_first, worked_log, worked_origin, worked_start}
 
 none_ended : (x : ℕ) → 3 ≤ x → ended worked_origin.at x [] ≡ false

@@ -17,7 +17,7 @@ use Rattle.heap_tuple.specs.Tuple.{is_lock_only, max_of}
 use Rattle.wal_bodies.specs.After.{applied, joined, tuple_of}
 use Rattle.wal_bodies.specs.HeapKinds.{same_locator}
 use Rattle.wal_bodies.specs.Heads.{head_bytes, marked_mask}
-use Rattle.row_model.specs.TransactionsOf.{transaction_of, transactions_of}
+use Rattle.xact_redo.specs.TransactionsOf.{transaction_of, transactions_of}
 use Rattle.row_model.specs.Versions.{Version, changed_at, version_at, with_step, with_steps}
 use Rattle.row_model.specs.RowSteps.{births, births_written, block_count, count_with, deleter_of_mark, own_steps, steps_in, update_steps, version_put, version_written, versions, whole_steps}
 use Rattle.row_model.specs.Rows.{IsInPlaceOrder, is_row}

@@ -20,7 +20,7 @@ use Rattle.heap_page.specs.Item.{Item, normal, numbered, is_normal}
 use Rattle.tuple_visibility.specs.Visible.{xmin_marks}
 use Rattle.transaction_model.specs.Transactions.{Statuses, TransactionRecord, Live, committed, ended}
 use Rattle.transaction_model.specs.LegalTransactions.{Legal, Origin}
-use Rattle.row_model.specs.TransactionsOf.{transactions_of}
+use Rattle.xact_redo.specs.TransactionsOf.{transactions_of}
 use Rattle.row_model.specs.Versions.{Version, Inserter, Nobody, Always, By, RowStep, Born, Deleter, Undone, version_at, version_born, with_step, with_steps}
 use Rattle.row_model.specs.RowSteps.{block_count, items_in, steps_of, versions}
 

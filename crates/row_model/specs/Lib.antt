@@ -2,6 +2,5 @@ pub mod LegalRows
 pub mod RowSteps
 pub mod Rows
 pub mod Shown
-pub mod TransactionsOf
 pub mod Versions
 pub mod WorkedRows

@@ -11,7 +11,7 @@ use Rattle.wal_bodies.specs.declared.types.RecKind.TheVariants.{Checkpoint, Back
 use Rattle.heap_tuple.specs.declared.tuple_view.MaxOf.TheVariants.{None as NoDeleter}
 use Rattle.transaction_model.specs.Transactions.{committed}
 use Rattle.transaction_model.specs.LegalTransactions.{Origin}
-use Rattle.row_model.specs.TransactionsOf.{transactions_of}
+use Rattle.xact_redo.specs.TransactionsOf.{transactions_of}
 use Rattle.row_model.specs.Versions.{Version, By}
 use Rattle.row_model.specs.RowSteps.{versions}
 use Rattle.row_model.specs.Rows.{IsRows}

@@ -7,7 +7,7 @@ use Rattle.wal_bodies.specs.declared.types.Rec.{Rec}
 use Rattle.heap_redo.specs.Redone.{Seen, absent, View, redone, table_of}
 use Rattle.transaction_model.specs.Transactions.{Statuses, TransactionRecord}
 use Rattle.transaction_model.specs.LegalTransactions.{Origin, Legal}
-use Rattle.row_model.specs.TransactionsOf.{transaction_of, transactions_of}
+use Rattle.xact_redo.specs.TransactionsOf.{transaction_of, transactions_of}
 use Rattle.row_model.specs.Versions.{Version, with_steps, version_at}
 use Rattle.row_model.specs.RowSteps.{block_count, count_with, steps_of, versions}
 use Rattle.row_model.specs.LegalRows.{RecordFits, LegalTable, AreWellFormed, TableRule, are_apart}

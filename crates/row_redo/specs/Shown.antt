@@ -4,7 +4,7 @@ use Rattle.pg_types.specs.declared.names.Locator.{Locator}
 use Rattle.wal_bodies.specs.declared.types.Rec.{Rec}
 use Rattle.heap_redo.specs.Redone.{View, absent, redone, table_of}
 use Rattle.transaction_model.specs.LegalTransactions.{Origin}
-use Rattle.row_model.specs.TransactionsOf.{transactions_of}
+use Rattle.xact_redo.specs.TransactionsOf.{transactions_of}
 use Rattle.row_model.specs.RowSteps.{block_count, versions}
 use Rattle.row_model.specs.LegalRows.{LegalLog}
 use Rattle.row_model.specs.Shown.{ShowsTable}

@@ -1,25 +1,23 @@
 -- The commit log along a legal log: whose status says ended, and whose committed.
-use Rattle.std.proofs.Common.{◌≡◌, ℕ, ◌≤◌, Bool, true, false, ◌==◌, ◌||◌, ◌&&◌, cond, List, [], ◌∷◌, arith, refl, sym, ap, ◌∙◌, inl, inr, nat_le, bit_and}
+use Rattle.std.proofs.Common.{◌≡◌, ℕ, ◌≤◌, Bool, true, false, ◌==◌, ◌||◌, ◌&&◌, cond, List, [], ◌∷◌, arith, refl, sym, ap, ◌∙◌, inl, inr, nat_le}
 use Rattle.std.proofs.lemmas.Bool.{or_cases, or_left, or_right, or_from, cond_both, cond-true, cond-false, cases_Bool, false_from_ne_true, both_ways, le-leb, and_right, false≢true}
 use Rattle.std.specs.List.{list_any}
-use Rattle.pg_types.specs.declared.names.Lsn.{Lsn}
 use Rattle.pg_types.specs.declared.names.Xid.{Xid}
 use Rattle.pg_types.specs.declared.status.Status.{Status}
 use Rattle.pg_types.specs.declared.status.Status.TheVariants.{None as Unset, Committed, Aborted}
 use Rattle.wal_record.specs.declared.types.RecordHead.{RecordHead}
 use Rattle.wal_bodies.specs.declared.types.Rec.{Rec}
 use Rattle.wal_bodies.specs.declared.types.RecKind.{RecKind}
-use Rattle.wal_bodies.specs.declared.types.RecKind.TheVariants.{Checkpoint, Ended, Running}
+use Rattle.wal_bodies.specs.declared.types.RecKind.TheVariants.{Checkpoint, Ended}
 use Rattle.commit_log.specs.Log.{initial_status, is_named, status_after}
 use Rattle.known_assigned.specs.Ids.{is_among, numbers}
-use Rattle.known_assigned.specs.Known.{Known, after_observe, after_shutdown}
 use Rattle.tuple_visibility.specs.Visible.{is_committed}
-use Rattle.xact_redo.specs.State.{TransactionState, before_records, effect, has_ended, is_shutdown, last_named, outcome_of, state_after}
+use Rattle.xact_redo.specs.State.{before_records, has_ended, outcome_of, state_after, statuses_after}
 use Rattle.transaction_model.specs.Transactions.{Kind, Commit, Abort, Shutdown, Online, TransactionRecord, Statuses, commits, finishes, ends, committed, finished, ended, Live}
 use Rattle.transaction_model.specs.LegalTransactions.{Legal, NamesLive, Origin, OriginRule, RuleOf}
 use Rattle.transaction_model.specs.StandbyStates.{shown}
 use Rattle.transaction_model.specs.TransactionLaws.{IsCaughtUp, ShowsFinished}
-use Rattle.row_model.specs.TransactionsOf.{kind_of, transaction_of, transactions_of}
+use Rattle.xact_redo.specs.TransactionsOf.{is_commit, is_shutdown, kind_of, transaction_of, transactions_of}
 use Rattle.row_visibility.specs.Sees.{HasNoStatuses, state_along}
 
 -- what the commit log shows ended before the first record
@@ -132,46 +130,32 @@ checkpoint_committed :
 checkpoint_committed true was x xid next redo = refl
 checkpoint_committed false was x xid next redo = refl
 
-checkpoint_keeps :
-    (b : Bool) (k : Known) (s : TransactionState) (x : ℕ) → (cond b (record s { known = k }) s).statuses x ≡ s.statuses x
-checkpoint_keeps true k s x = refl
-checkpoint_keeps false k s x = refl
-
 -- one record: a test of a status afterwards is what the record says of it, or what the test was before
 ended_after :
-    (o : Origin) (head : RecordHead) (end : Lsn) (kind : RecKind) (s : TransactionState)
-    (older now : List TransactionRecord) → RuleOf o head.xid.0 (kind_of head kind) older now → (x : ℕ)
-    → has_ended ((effect head end kind s).statuses x) ≡ (finishes x head.xid.0 (kind_of head kind) || has_ended (s.statuses x))
-ended_after o head end (Ended time xinfo xids) s older now rule x =
-    test_is has_ended s.statuses (head.xid ∷ xids) (outcome_of head) x
-    (λ y h. (ending_names o head.xid.0 (numbers xids) older now (bit_and head.info 0x70 == 0x00) rule y h).normal)
-    ∙ ended_now head.xid.0 (numbers xids) (bit_and head.info 0x70 == 0x00) (has_ended (s.statuses x)) x
-ended_after o head end (Checkpoint redo timeline previous writes next multi member oldest active) s older now rule x =
-    ap has_ended (checkpoint_keeps (is_shutdown head) (after_shutdown s.known next.0) s x)
-    ∙ checkpoint_ended (is_shutdown head) (has_ended (s.statuses x)) x head.xid.0 next.0 redo.0
-ended_after o head end (Running tops subs overflow next oldest latest xids) s older now rule x = refl
-ended_after o head end _ s older now rule x = refl
+    (o : Origin) (head : RecordHead) (kind : RecKind) (before : ℕ → Status) (older now : List TransactionRecord)
+    → RuleOf o head.xid.0 (kind_of head kind) older now → (x : ℕ)
+    → has_ended (statuses_after head kind before x) ≡ (finishes x head.xid.0 (kind_of head kind) || has_ended (before x))
+ended_after o head (Ended time xinfo xids) before older now rule x =
+    test_is has_ended before (head.xid ∷ xids) (outcome_of head) x
+    (λ y h. (ending_names o head.xid.0 (numbers xids) older now (is_commit head) rule y h).normal)
+    ∙ ended_now head.xid.0 (numbers xids) (is_commit head) (has_ended (before x)) x
+ended_after o head (Checkpoint redo timeline previous writes next multi member oldest active) before older now rule x =
+    checkpoint_ended (is_shutdown head) (has_ended (before x)) x head.xid.0 next.0 redo.0
+ended_after o head _ before older now rule x = refl
 
 committed_after :
-    (o : Origin) (head : RecordHead) (end : Lsn) (kind : RecKind) (s : TransactionState)
-    (older now : List TransactionRecord) → RuleOf o head.xid.0 (kind_of head kind) older now → (x : ℕ)
-    → is_committed (s.statuses x) ≡ committed o.at x older
-    → is_committed ((effect head end kind s).statuses x)
-    ≡ (commits x head.xid.0 (kind_of head kind) || is_committed (s.statuses x))
-committed_after o head end (Ended time xinfo xids) s older now rule x same =
-    let names = ending_names o head.xid.0 (numbers xids) older now (bit_and head.info 0x70 == 0x00) rule in
-    test_is is_committed s.statuses (head.xid ∷ xids) (outcome_of head) x (λ y h. (names y h).normal)
-    ∙ committed_now head.xid.0 (numbers xids) (bit_and head.info 0x70 == 0x00) (is_committed (s.statuses x)) x
+    (o : Origin) (head : RecordHead) (kind : RecKind) (before : ℕ → Status) (older now : List TransactionRecord)
+    → RuleOf o head.xid.0 (kind_of head kind) older now → (x : ℕ) → is_committed (before x) ≡ committed o.at x older
+    → is_committed (statuses_after head kind before x)
+    ≡ (commits x head.xid.0 (kind_of head kind) || is_committed (before x))
+committed_after o head (Ended time xinfo xids) before older now rule x same =
+    let names = ending_names o head.xid.0 (numbers xids) older now (is_commit head) rule in
+    test_is is_committed before (head.xid ∷ xids) (outcome_of head) x (λ y h. (names y h).normal)
+    ∙ committed_now head.xid.0 (numbers xids) (is_commit head) (is_committed (before x)) x
     (λ h. same ∙ live_not_committed o.at x older (names x h))
-committed_after o head end (Checkpoint redo timeline previous writes next multi member oldest active) s older now rule x same =
-    ap is_committed (checkpoint_keeps (is_shutdown head) (after_shutdown s.known next.0) s x)
-    ∙ checkpoint_committed (is_shutdown head) (is_committed (s.statuses x)) x head.xid.0 next.0 redo.0
-committed_after o head end (Running tops subs overflow next oldest latest xids) s older now rule x same = refl
-committed_after o head end _ s older now rule x same = refl
-
--- the ids that a record names are observed
-abbrev pub observing : Rec → TransactionState → TransactionState
-observing r s = record s { known = after_observe s.known (last_named r.head r.kind) }
+committed_after o head (Checkpoint redo timeline previous writes next multi member oldest active) before older now rule x same =
+    checkpoint_committed (is_shutdown head) (is_committed (before x)) x head.xid.0 next.0 redo.0
+committed_after o head _ before older now rule x same = refl
 
 -- the commit log shows ended what the records finished
 pub ended_along :
@@ -180,7 +164,7 @@ pub ended_along :
 unfolding state_along state_after before_records transaction_of shown
 ended_along o [] legal x = refl
 ended_along o (r ∷ older) legal x =
-    ended_after o r.head r.end r.kind (observing r (state_along older)) (transactions_of older) (transactions_of (r ∷ older))
+    ended_after o r.head r.kind (state_along older).statuses (transactions_of older) (transactions_of (r ∷ older))
     (rule_of o (transaction_of r) (transactions_of older) legal) x
     ∙ ap (λ (t : Bool). finishes x r.head.xid.0 (kind_of r.head r.kind) || t)
     (ended_along o older (legal_rest o (transaction_of r) (transactions_of older) legal) x)
@@ -207,7 +191,7 @@ committed_along o [] none legal x =
     initial_committed (x == 1 || x == 2) ∙ or_none (x == 1 || x == 2) (o.at.is_committed x) (none x).0
 committed_along o (r ∷ older) none legal x =
     let before = committed_along o older none (legal_rest o (transaction_of r) (transactions_of older) legal) x in
-    committed_after o r.head r.end r.kind (observing r (state_along older)) (transactions_of older) (transactions_of (r ∷ older))
+    committed_after o r.head r.kind (state_along older).statuses (transactions_of older) (transactions_of (r ∷ older))
     (rule_of o (transaction_of r) (transactions_of older) legal) x before
     ∙ ap (λ (t : Bool). commits x r.head.xid.0 (kind_of r.head r.kind) || t) before
 

@@ -14,7 +14,7 @@ use Rattle.transaction_model.specs.TransactionLaws.{IdsDecide, StateAgrees}
 use Rattle.row_model.specs.Versions.{Version, Inserter, Nobody, Always, By}
 use Rattle.row_model.specs.Rows.{counts as inserter_is_in, is_deleted, is_row}
 use Rattle.row_model.specs.LegalRows.{AreMarksTrue, IsSingle, Shows, ShowsDeleter, ShowsInserter}
-use Rattle.row_model.specs.TransactionsOf.{transactions_of}
+use Rattle.xact_redo.specs.TransactionsOf.{transactions_of}
 use Rattle.xact_redo.specs.Sees.{no_multixacts}
 use Rattle.row_visibility.specs.Sees.{SeesRows, state_along}
 use Rattle.row_visibility.proofs.Along.{decided_along}

@@ -7,7 +7,7 @@ use Rattle.xact_redo.specs.Sees.{sees}
 use Rattle.xact_redo.specs.State.{TransactionState, before_records, state_after}
 use Rattle.transaction_model.specs.Transactions.{Statuses, IsXmin, committed, state_of}
 use Rattle.transaction_model.specs.LegalTransactions.{Legal, Origin}
-use Rattle.row_model.specs.TransactionsOf.{transactions_of}
+use Rattle.xact_redo.specs.TransactionsOf.{transactions_of}
 use Rattle.row_model.specs.Versions.{Version}
 use Rattle.row_model.specs.Rows.{is_row}
 use Rattle.row_model.specs.LegalRows.{IsSingle, Shows}

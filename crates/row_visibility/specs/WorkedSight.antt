@@ -2,7 +2,7 @@
 use Rattle.std.specs.Prelude.{◌≡◌, ℕ, true, false, List, ◌∷◌, Ok}
 use Rattle.known_assigned.specs.declared.state.State.TheVariants.{Ready}
 use Rattle.transaction_model.specs.LegalTransactions.{Legal}
-use Rattle.row_model.specs.TransactionsOf.{transactions_of}
+use Rattle.xact_redo.specs.TransactionsOf.{transactions_of}
 use Rattle.row_model.specs.LegalRows.{Shows}
 use Rattle.row_model.specs.WorkedRows.{first_values, second_row, update_by_701, worked_first, worked_log, worked_origin}
 use Rattle.xact_redo.specs.Sees.{sees}

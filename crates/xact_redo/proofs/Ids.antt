@@ -1,7 +1,9 @@
 -- Facts that hold of each id of a list, and the greatest one.
-use Rattle.std.proofs.Common.{◌≡◌, ℕ, zero, suc, ◌+◌, ◌*◌, ◌/◌, ◌≤◌, ◌<◌, List, [], ◌∷◌, All, fold, max, arith}
+use Rattle.std.proofs.Common.{◌≡◌, ℕ, zero, suc, ◌+◌, ◌*◌, ◌/◌, ◌≤◌, ◌<◌, Bool, true, false, cond, List, [], ◌∷◌, All, fold, max, arith, refl}
 use Rattle.pg_types.specs.declared.names.Xid.{Xid}
 use Rattle.known_assigned.specs.Ids.{greatest, numbers}
+use Rattle.transaction_model.specs.StandbyStates.{last_named}
+use Rattle.transaction_model.specs.Transactions.{Abort, Commit}
 
 -- what holds of each id of a running record holds of its oldest and its latest id, and of each that is listed
 pub of_running :
@@ -23,3 +25,10 @@ fold-max-each m (x ∷ xs) (suc k) d h = fold-max-each (max m x.0) xs k d (omega
 -- each is below the end of the page of the greatest one
 pub below_page_end : (xs : List Xid) (last end : ℕ) → last ≡ greatest (numbers xs) → 32768 * (last / 32768 + 1) ≤ end → All (λ (x : Xid). x.0 < end) xs
 below_page_end xs last end is fits k d h = omega (arith, fold-max-each 0 xs k d h)
+
+-- a commit and an abort name the same ids
+pub named_at_end :
+    (commit : Bool) (xid : ℕ) (subs : List ℕ)
+    → last_named xid (cond commit (Commit subs) (Abort subs)) ≡ greatest (xid ∷ subs)
+named_at_end true xid subs = refl
+named_at_end false xid subs = refl

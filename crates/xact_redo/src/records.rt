@@ -1,8 +1,10 @@
-ghost use Rattle.std.specs.Prelude.{◌≡◌, ℕ, ◌+◌, ◌^◌, ◌≤◌, ◌<◌, ◌∷◌, All, length};
+ghost use Rattle.std.specs.Prelude.{◌≡◌, ℕ, ◌+◌, ◌^◌, ◌≤◌, ◌<◌, ◌∷◌, All, filter, length, if◌then◌else◌};
 ghost use Rattle.pg_types.specs.declared.names.Xid.{Xid};
-ghost use Rattle.commit_log.specs.Log.{reserved_end, status_of};
+ghost use Rattle.commit_log.specs.Log.{changed_after, reserved_end, status_after, status_of};
 ghost use Rattle.known_assigned.specs.Ids.{greatest, numbers};
-ghost use Rattle.xact_redo.specs.State.{AreIdsInRange, HasRoom, checkpoint_seen, has_ended, last_ended, last_named, outcome_of, running_seen, state_after, still_live, transactions, tree_ended};
+ghost use Rattle.known_assigned.specs.Known.{after_end, after_running, after_shutdown};
+ghost use Rattle.xact_redo.specs.State.{AreIdsInRange, HasRoom, has_ended, last_named_in, outcome_of, shows_ended, state_after, still_live, transactions};
+ghost use Rattle.xact_redo.specs.TransactionsOf.{is_shutdown};
 
 use crate::state::XactState;
 use commit_log::CommitLog;
@@ -56,7 +58,7 @@ pub fn redo(rec: &Rec, state: &mut XactState)
 
 /// The greatest id that the record names, in its header or as ended.
 pub(crate) fn last_named(rec: &Rec) -> Xid
-    ensures { result.0 ≡ last_named rec.now.head rec.now.kind }
+    ensures { result.0 ≡ last_named_in rec.now.head rec.now.kind }
 {
     match &rec.kind {
         RecKind::Ended { xids, .. } => greatest_of(rec.head.xid, xids.as_slice()),
@@ -91,7 +93,7 @@ fn outcome_of(head: RecordHead) -> Status
 fn end_tree(xid: Xid, subs: &[Xid], status: Status, at: Lsn, state: &mut XactState)
     requires ids { All (λ (x : Xid). x.0 ≤ 2 ^ 63 + 2 ^ 32) (xid ∷ subs.now) }
     requires room { All (λ (x : Xid). x.0 < reserved_end state.old.log) (xid ∷ subs.now) }
-    ensures { transactions state.new ≡ tree_ended (xid ∷ subs.now) status at (transactions state.old) }
+    ensures { transactions state.new ≡ record (transactions state.old) { statuses = status_after (transactions state.old).statuses (xid ∷ subs.now) status; changed = changed_after (transactions state.old).changed (xid ∷ subs.now) at.0; known = after_end (transactions state.old).known (numbers (xid ∷ subs.now)) } }
 {
     state.log.set_tree(xid, subs, status, at);
     state.known.end_tree(xid, subs);
@@ -105,7 +107,7 @@ fn see_running(head: &RunningHead, xids: &[Xid], state: &mut XactState)
     requires listed { All (λ (x : Xid). x.0 ≤ 2 ^ 63 + 2 ^ 32) xids.now }
     requires live { numbers state.old.scratch ≡ still_live (status_of state.old.log) (numbers xids.now) }
     requires places { length state.old.scratch ≤ state.old.known.spare }
-    ensures { transactions state.new ≡ running_seen head.now (numbers xids.now) (transactions state.old) }
+    ensures { transactions state.new ≡ record (transactions state.old) { known = after_running (transactions state.old).known head.now (still_live (transactions state.old).statuses (numbers xids.now)) (greatest (filter (shows_ended (transactions state.old).statuses) (numbers xids.now))) } }
 {
     let ended = last_ended(&state.log, xids);
     state.known.running(head, state.scratch.as_slice(), ended);
@@ -114,7 +116,7 @@ fn see_running(head: &RunningHead, xids: &[Xid], state: &mut XactState)
 /// The greatest of the ids that the commit log shows ended, or 0.
 fn last_ended(log: &CommitLog, xids: &[Xid]) -> Xid
     requires { All (λ (x : Xid). x.0 ≤ 2 ^ 63 + 2 ^ 32) xids.now }
-    ensures last { result.0 ≡ last_ended (status_of log.now) (numbers xids.now) }
+    ensures last { result.0 ≡ greatest (filter (shows_ended (status_of log.now)) (numbers xids.now)) }
     ensures bound { result.0 ≤ 2 ^ 63 + 2 ^ 32 }
 {
     let mut most = 0;
@@ -137,7 +139,7 @@ pub(crate) fn has_ended(status: Status) -> bool
 #[tactic(auto, unfolding(crate::specs::State::transactions))]
 fn see_checkpoint(head: RecordHead, next: Xid, state: &mut XactState)
     requires { next.0 ≤ 2 ^ 63 + 2 ^ 32 }
-    ensures { transactions state.new ≡ checkpoint_seen head next (transactions state.old) }
+    ensures { transactions state.new ≡ (if is_shutdown head then record (transactions state.old) { known = after_shutdown (transactions state.old).known next.0 } else transactions state.old) }
 {
     if head.info & 0xF0 == 0x00 {
         state.known.shutdown(next);

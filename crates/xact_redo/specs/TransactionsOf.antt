@@ -1,6 +1,6 @@
 -- What a typed record says of transactions.
 -- Sources: xact.c (xact_redo), standby.c (standby_redo), xlog.c (xlog_redo).
-use Rattle.std.specs.Prelude.{◌==◌, List, bit_and, map, if◌then◌else◌}
+use Rattle.std.specs.Prelude.{◌==◌, Bool, List, bit_and, map, if◌then◌else◌}
 use Rattle.wal_record.specs.declared.types.RecordHead.{RecordHead}
 use Rattle.wal_bodies.specs.declared.types.Rec.{Rec}
 use Rattle.wal_bodies.specs.declared.types.RecKind.{RecKind}
@@ -8,15 +8,22 @@ use Rattle.wal_bodies.specs.declared.types.RecKind.TheVariants as rec
 use Rattle.known_assigned.specs.Ids.{numbers}
 use Rattle.transaction_model.specs.Transactions.{Kind, Commit, Abort, Running, Shutdown, Online, Other, TransactionRecord}
 
--- a commit or an abort (XLOG_XACT_OPMASK, xact.h), the running transactions, a checkpoint at shutdown or online
--- (XLOG_CHECKPOINT_SHUTDOWN, pg_control.h); all other records say nothing but the id of their header
+-- of a record that ends a transaction: it is a commit, and not an abort (XLOG_XACT_OPMASK, xact.h)
+abbrev pub is_commit : RecordHead → Bool
+is_commit head = bit_and head.info 0x70 == 0x00
+
+-- of a checkpoint: it was made at shutdown, and not online (XLOG_CHECKPOINT_SHUTDOWN, pg_control.h)
+abbrev pub is_shutdown : RecordHead → Bool
+is_shutdown head = bit_and head.info 0xF0 == 0x00
+
+-- a commit or an abort, the running transactions, a checkpoint at shutdown or online; all other records say nothing
+-- but the id of their header
 abbrev pub kind_of : RecordHead → RecKind → Kind
-kind_of head (rec.Ended time xinfo xids) =
-    if bit_and head.info 0x70 == 0x00 then Commit (numbers xids) else Abort (numbers xids)
+kind_of head (rec.Ended time xinfo xids) = if is_commit head then Commit (numbers xids) else Abort (numbers xids)
 kind_of head (rec.Running tops subs overflow next oldest latest xids) =
     Running (record { overflow = overflow; tops = tops; next = next; oldest = oldest; latest = latest }) (numbers xids)
 kind_of head (rec.Checkpoint redo timeline previous writes next multi member oldest active) =
-    if bit_and head.info 0xF0 == 0x00 then Shutdown next.0 else Online redo.0 next.0
+    if is_shutdown head then Shutdown next.0 else Online redo.0 next.0
 kind_of head _ = Other
 
 unfoldable pub transaction_of : Rec → TransactionRecord
