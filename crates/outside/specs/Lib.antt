@@ -1,5 +1,6 @@
 pub mod Archive
 pub mod Counts
+pub mod Entries
 pub mod Faults
 pub mod Log
 pub mod LogEnds

@@ -1,5 +1,5 @@
 -- The told bytes of a log: the byte at each position, where it is told.
-use Rattle.std.specs.Prelude.{ℕ, ◌≡◌, ◌+◌, ◌-◌, ◌^◌, ◌<◌, ◌≤◌, ◌||◌, nat_lt, nat_le, if◌then◌else◌, List, length, slice_get, slice_index, Option, None, Some, Result, IfOk, IfSome}
+use Rattle.std.specs.Prelude.{ℕ, ◌≡◌, ◌+◌, ◌-◌, ◌^◌, ◌<◌, ◌≤◌, ◌||◌, nat_lt, nat_le, min, if◌then◌else◌, List, length, slice_get, slice_index, Option, None, Some, Result, IfOk, IfSome}
 use Rattle.pg_types.specs.declared.fail.Fail.{Fail}
 
 -- positions end here: no byte at or past it is told
@@ -28,3 +28,7 @@ EndsAtLimit told = IfSome told (λ byte_at. (at : ℕ) → log_limit ≤ at → 
 -- the told bytes of a text that stands from a position on
 abbrev pub text_from : ℕ → List ℕ → ℕ → Option ℕ
 text_from start text at = if nat_lt at start || nat_le log_limit at then None else slice_get text (at - start)
+
+-- how many bytes of that text are told in a row from a position on
+abbrev pub run_from : ℕ → List ℕ → ℕ → ℕ
+run_from start text at = if nat_lt at start || nat_le log_limit at then 0 else min (length text - (at - start)) (log_limit - at)

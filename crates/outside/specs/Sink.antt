@@ -3,6 +3,11 @@ use Rattle.std.specs.Prelude.{ℕ, ◌≡◌, List, ◌++◌, take, Option, None
 use Rattle.pg_types.specs.declared.fail.Fail.{Fail}
 use Rattle.pg_types.specs.declared.fail.Fail.TheVariants.{Failed, Memory}
 
+-- what a sink in memory took: all bytes written so far, and how many writes found no memory
+pub record Written : Type 0 where
+  pub bytes : List ℕ
+  pub short : ℕ
+
 -- exactly these bytes were added
 abbrev pub Appends : Option (List ℕ) → Option (List ℕ) → List ℕ → Type 0
 Appends None now bytes = Unit {0}

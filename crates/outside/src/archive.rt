@@ -1,5 +1,5 @@
-ghost use Rattle.std.specs.Prelude.{◌≡◌, ℕ, List, Option};
-ghost use Rattle.outside.specs.Archive.{Fetches, FitsIn};
+ghost use Rattle.std.specs.Prelude.{◌≡◌, ◌≢◌, ℕ, List, Option, Err};
+ghost use Rattle.outside.specs.Archive.{Fetches, FitsIn, HaveBytes};
 ghost use Rattle.outside.specs.Faults.{HasCause, IsCount};
 
 use pg_types::Fail;
@@ -19,7 +19,8 @@ pub trait Archive {
         ensures told { Fetches (files self.old) name.now at buf.new result }
         ensures fits { FitsIn buf.old result }
         ensures stays { files self.new ≡ files self.old }
-        ensures cause { HasCause (fault_count self.old) (fault_count self.new) result };
+        ensures cause { HasCause (fault_count self.old) (fault_count self.new) result }
+        ensures uncounted { result ≢ Err Fail.Failed → fault_count self.new ≡ fault_count self.old };
 
     /// The number of faults counted so far: below 2^62, or 2^63, its last value.
     fn faults(&self) -> u64
@@ -27,4 +28,7 @@ pub trait Archive {
 
     /// A count has not come to its last value, or it has, and then it stands at 2^63.
     ghost counts: { (archive : Self) → IsCount (fault_count archive) };
+
+    /// What the told files contain are bytes.
+    ghost bytes: { (archive : Self) → HaveBytes (files archive) };
 }

@@ -1,8 +1,8 @@
-ghost use Rattle.std.specs.Prelude.{◌≡◌, ◌↔◌, [], ◌∷◌, ◌++◌, Contains, IfOk, IsTrue, if◌then◌else◌};
+ghost use Rattle.std.specs.Prelude.{◌≡◌, ◌↔◌, Contains, IfOk, IsTrue};
 ghost use Rattle.outside.specs.Faults.{counted, next_count};
 ghost use Rattle.outside.specs.Memory.{next_call};
 
-use pg_types::NoMemory;
+use pg_types::{Fail, NoMemory};
 use std::alloc::Global;
 
 const ROOM: u64 = 0x4000_0000_0000_0000;
@@ -67,19 +67,25 @@ impl FaultPlan {
         })
     }
 
-    /// Begins a call. Says whether it is to fail, and then counts its fault.
+    /// Begins a call, and says whether it is to fail.
     pub fn strikes(&mut self) -> bool
         ensures listed { IsTrue result ↔ Contains self.old.fails.items (next_call self.old.calls) }
         ensures stays { self.new.fails.items ≡ self.old.fails.items }
         ensures next { self.new.calls ≡ next_call self.old.calls }
-        ensures count { counted self.new.count.faults
-            ≡ (if result then next_count (counted self.old.count.faults) else counted self.old.count.faults) }
+        ensures count { self.new.count.faults ≡ self.old.count.faults }
     {
         self.calls = self.calls.saturating_add(1);
-        let strikes = self.fails.contains(&self.calls);
-        if strikes {
-            self.count.rise();
-        }
-        strikes
+        self.fails.contains(&self.calls)
+    }
+
+    /// Counts the fault of the call that fails.
+    pub fn failure(&mut self) -> Fail
+        ensures failed { result ≡ Fail.Failed }
+        ensures stays { self.new.fails.items ≡ self.old.fails.items }
+        ensures calls { self.new.calls ≡ self.old.calls }
+        ensures count { counted self.new.count.faults ≡ next_count (counted self.old.count.faults) }
+    {
+        self.count.rise();
+        Fail::Failed
     }
 }

@@ -10,6 +10,7 @@ pub mod memory_log;
 pub mod memory_sink;
 pub mod real;
 pub mod sink;
+mod stored;
 
 pub use archive::Archive;
 pub use faults::{FaultCount, FaultPlan};

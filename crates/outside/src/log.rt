@@ -1,4 +1,4 @@
-ghost use Rattle.std.specs.Prelude.{◌≡◌, ◌≤◌, ℕ, Option};
+ghost use Rattle.std.specs.Prelude.{◌≡◌, ◌≢◌, ◌≤◌, ℕ, Option, Err};
 ghost use Rattle.outside.specs.Faults.{HasCause, last_count};
 ghost use Rattle.outside.specs.Log.{EndsAtLimit, FitsLog, GivesBytes};
 
@@ -29,7 +29,8 @@ pub trait LogBytes {
         ensures same { same self.old self.new }
         ensures stays { told self.new ≡ told self.old }
         ensures same_owner { owner_of self.new ≡ owner_of self.old }
-        ensures cause { HasCause (fault_count self.old) (fault_count self.new) result };
+        ensures cause { HasCause (fault_count self.old) (fault_count self.new) result }
+        ensures uncounted { result ≢ Err Fail.Failed → fault_count self.new ≡ fault_count self.old };
 
     /// The timeline of the position.
     fn owner(&self, at: Lsn) -> Tli

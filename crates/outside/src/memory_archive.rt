@@ -1,40 +1,27 @@
-ghost use Rattle.std.specs.Prelude.{◌≡◌, ◌≢◌, ◌↔◌, [], ◌∷◌, ◌++◌, ℕ, List, Contains, IfOk, IsOk, OnOk, OnErr, Some, Err};
+ghost use Rattle.std.specs.Prelude.{◌≡◌, ◌≢◌, ◌↔◌, [], ◌∷◌, Contains, IfOk, IsOk, OnOk, OnErr, Some, Err};
 ghost use Rattle.outside.specs.Archive.{Fetches, FitsIn, Reads};
-ghost use Rattle.outside.specs.Faults.{HasCause, counted};
+ghost use Rattle.outside.specs.Faults.{HasCause, counted, next_count};
 ghost use Rattle.outside.specs.Memory.{file_named, next_call};
 ghost use Rattle.outside.specs.Counts.{counted_IsCount};
+ghost use Rattle.outside.specs.Entries.{entries, entries_have_bytes};
 
 use crate::archive::Archive;
 use crate::faults::FaultPlan;
+use crate::stored::StoredFile;
 use pg_types::{Bytes, Fail, NoMemory};
 use std::alloc::Global;
-use std::marker::Model;
 
-#[derive(Debug, Drop)]
-struct StoredFile {
-    name: Bytes,
-    contents: Bytes,
-}
-
-/// An archive in memory that never fails. Contracts see it as the list of its files, each a name and
-/// contents, the newest first.
+/// An archive in memory that never fails. Contracts see its `entries`: the name and the contents of each
+/// file, the newest first.
 #[derive(Debug, Drop)]
 pub struct SteadyArchive {
     files: Vec<StoredFile>,
 }
 
-impl Model for SteadyArchive {
-    ghost use Rattle.std.specs.Prelude.{List, ℕ, map};
-
-    ghost Value = { List (List ℕ × List ℕ) };
-
-    ghost view = { λ archive. map (λ file. (file.name, file.contents)) archive.files.items };
-}
-
 impl SteadyArchive {
     /// An archive without files.
     pub fn new(alloc: Global) -> SteadyArchive
-        ensures { result ≡ [] }
+        ensures { entries result ≡ [] }
     {
         SteadyArchive {
             files: Vec::new(alloc),
@@ -43,8 +30,8 @@ impl SteadyArchive {
 
     /// Adds a file. It hides older ones of its name.
     pub fn put(&mut self, alloc: Global, name: &str, contents: &[u8]) -> Result<(), NoMemory>
-        ensures ok { OnOk result (self.new ≡ (name.now, contents.now) ∷ self.old) }
-        ensures err { OnErr result (self.new ≡ self.old) }
+        ensures ok { OnOk result (entries self.new ≡ (name.now, contents.now) ∷ entries self.old) }
+        ensures err { OnErr result (entries self.new ≡ entries self.old) }
     {
         let name = Bytes::from_slice(alloc, name.as_bytes())?;
         let contents = Bytes::from_slice(alloc, contents)?;
@@ -54,12 +41,12 @@ impl SteadyArchive {
 }
 
 impl Archive for SteadyArchive {
-    ghost files = { λ archive. Some (file_named archive) };
+    ghost files = { λ archive. Some (file_named (entries archive)) };
 
     ghost fault_count = { λ _. 0 };
 
     fn fetch(&mut self, name: &str, at: u64, buf: &mut [u8]) -> Result<Option<usize>, Fail>
-        ensures told { Fetches (Some (file_named self.old)) name.now at buf.new result }
+        ensures told { Fetches (Some (file_named (entries self.old))) name.now at buf.new result }
         ensures fits { FitsIn buf.old result }
         ensures stays { self.new ≡ self.old }
         ensures steady { IsOk result }
@@ -77,6 +64,8 @@ impl Archive for SteadyArchive {
     }
 
     ghost counts = { λ _. counted_IsCount 0 };
+
+    ghost bytes = { entries_have_bytes };
 }
 
 /// Reads the contents from their byte `at` on into the front of `buf`.
@@ -115,22 +104,24 @@ impl MemoryArchive {
 }
 
 impl Archive for MemoryArchive {
-    ghost files = { λ archive. Some (file_named archive.files) };
+    ghost files = { λ archive. Some (file_named (entries archive.files)) };
 
     ghost fault_count = { λ archive. counted archive.plan.count.faults };
 
     fn fetch(&mut self, name: &str, at: u64, buf: &mut [u8]) -> Result<Option<usize>, Fail>
-        ensures told { Fetches (Some (file_named self.old.files)) name.now at buf.new result }
+        ensures told { Fetches (Some (file_named (entries self.old.files))) name.now at buf.new result }
         ensures fits { FitsIn buf.old result }
         ensures stays { self.new.files ≡ self.old.files }
         ensures cause { HasCause (counted self.old.plan.count.faults) (counted self.new.plan.count.faults) result }
         ensures failed { (result ≡ Err Fail.Failed) ↔ Contains self.old.plan.fails.items (next_call self.old.plan.calls) }
         ensures steady { result ≢ Err Fail.Memory }
+        ensures uncounted { result ≢ Err Fail.Failed → counted self.new.plan.count.faults ≡ counted self.old.plan.count.faults }
+        ensures one { result ≡ Err Fail.Failed → counted self.new.plan.count.faults ≡ next_count (counted self.old.plan.count.faults) }
         ensures listed { self.new.plan.fails.items ≡ self.old.plan.fails.items }
         ensures next { self.new.plan.calls ≡ next_call self.old.plan.calls }
     {
         if self.plan.strikes() {
-            return Err(Fail::Failed);
+            return Err(self.plan.failure());
         }
         self.files.fetch(name, at, buf)
     }
@@ -140,4 +131,6 @@ impl Archive for MemoryArchive {
     }
 
     ghost counts = { λ archive. counted_IsCount archive.plan.count.faults };
+
+    ghost bytes = { λ archive. entries_have_bytes archive.files };
 }

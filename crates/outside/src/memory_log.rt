@@ -1,7 +1,7 @@
-ghost use Rattle.std.specs.Prelude.{◌≡◌, ◌≢◌, ◌↔◌, ◌+◌, ◌<◌, ◌≤◌, ℕ, All, Contains, max, IfOk, IsOk, Some, Err, length};
-ghost use Rattle.outside.specs.Faults.{HasCause, counted};
-ghost use Rattle.outside.specs.Log.{FitsLog, GivesBytes, GivesRun, log_limit, text_from};
-ghost use Rattle.outside.specs.Memory.{KeepsTo, next_call};
+ghost use Rattle.std.specs.Prelude.{◌≡◌, ◌≢◌, ◌↔◌, ◌+◌, ◌<◌, ◌≤◌, ℕ, Contains, min, max, IfOk, IsOk, Some, Err, length};
+ghost use Rattle.outside.specs.Faults.{HasCause, counted, next_count};
+ghost use Rattle.outside.specs.Log.{FitsLog, GivesBytes, GivesRun, log_limit, run_from, text_from};
+ghost use Rattle.outside.specs.Memory.{KeepsTo, next_call, up_to_cut};
 ghost use Rattle.outside.specs.Counts.{counted_le};
 ghost use Rattle.outside.specs.LogEnds.{text_from_ends};
 
@@ -57,6 +57,7 @@ impl LogBytes for SteadyLog {
         ensures fits { FitsLog at.0 buf.old result }
         ensures stays { self.new ≡ self.old }
         ensures steady { IsOk result }
+        ensures longest { IfOk result (λ count. count ≡ min (length buf.old) (run_from self.old.0 self.old.1 at.0)) }
     {
         Ok(read_run(self.start, self.text.as_slice(), at.0, buf))
     }
@@ -132,6 +133,10 @@ impl LogBytes for MemoryLog {
         ensures cause { HasCause (counted self.old.plan.count.faults) (counted self.new.plan.count.faults) result }
         ensures failed { (result ≡ Err Fail.Failed) ↔ Contains self.old.plan.fails.items (next_call self.old.plan.calls) }
         ensures steady { result ≢ Err Fail.Memory }
+        ensures uncounted { result ≢ Err Fail.Failed → counted self.new.plan.count.faults ≡ counted self.old.plan.count.faults }
+        ensures one { result ≡ Err Fail.Failed → counted self.new.plan.count.faults ≡ next_count (counted self.old.plan.count.faults) }
+        ensures longest { IfOk result (λ count. count ≡ min (up_to_cut self.old.cuts.items at.0 (min (length buf.old) (max 1 self.old.most)))
+            (run_from self.old.log.0 self.old.log.1 at.0)) }
         ensures most { IfOk result (λ count. count ≤ max 1 self.old.most) }
         ensures cut { IfOk result (KeepsTo self.old.cuts.items at.0) }
         ensures listed { self.new.plan.fails.items ≡ self.old.plan.fails.items }
@@ -140,7 +145,7 @@ impl LogBytes for MemoryLog {
         ensures same_cuts { self.new.cuts.items ≡ self.old.cuts.items }
     {
         if self.plan.strikes() {
-            return Err(Fail::Failed);
+            return Err(self.plan.failure());
         }
         let most = buf.len().min(self.most.max(1));
         let reach = up_to_cut(self.cuts.as_slice(), at.0, most);
@@ -169,6 +174,7 @@ fn read_run(start: u64, text: &[u8], at: u64, buf: &mut [u8]) -> usize
     ensures run { GivesRun (text_from start text.now) at buf.new result }
     ensures fits { result ≤ length buf.old }
     ensures below { 0 < result → at + result ≤ log_limit }
+    ensures longest { result ≡ min (length buf.old) (run_from start text.now at) }
 {
     if at < start || at >= LIMIT {
         return 0;
@@ -182,6 +188,7 @@ fn up_to_cut(cuts: &[u64], at: u64, most: usize) -> usize
     ensures most { result ≤ most }
     ensures some { 0 < most → 0 < result }
     ensures cut { KeepsTo cuts.now at result }
+    ensures longest { result ≡ up_to_cut cuts.now at most }
 {
     let mut reach = most;
     for cut in cuts {

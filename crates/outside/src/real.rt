@@ -1,5 +1,5 @@
 // The real objects. They tell no content and count their failures.
-ghost use Rattle.std.specs.Prelude.{◌≡◌, ◌≤◌, length, IfOk, None};
+ghost use Rattle.std.specs.Prelude.{◌≡◌, ◌≢◌, ◌≤◌, length, IfOk, None};
 ghost use Rattle.outside.specs.Faults.{Rose, counted};
 ghost use Rattle.outside.specs.Counts.{counted_IsCount, counted_le};
 
@@ -56,6 +56,8 @@ impl<R: Files> Archive for FolderArchive<'_, R> {
     }
 
     ghost counts = { λ archive. counted_IsCount archive.count.faults };
+
+    ghost bytes = { λ _. tt };
 }
 
 /// Standard output.
@@ -103,6 +105,7 @@ impl<R: Print> Sink for StdoutSink<'_, R> {
 // What a failed call of the file system is to its caller; a fault is counted.
 fn failure(count: &mut FaultCount, kind: ErrorKind) -> Fail
     ensures grows { counted count.old.faults ≤ counted count.new.faults }
+    ensures uncounted { result ≢ Fail.Failed → counted count.new.faults ≡ counted count.old.faults }
     ensures cause { result ≡ Fail.Failed → Rose (counted count.old.faults) (counted count.new.faults) }
 {
     if kind == ErrorKind::OutOfMemory {

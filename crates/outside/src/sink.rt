@@ -1,4 +1,4 @@
-ghost use Rattle.std.specs.Prelude.{◌≡◌, ◌≤◌, ℕ, List, Option};
+ghost use Rattle.std.specs.Prelude.{◌≡◌, ◌≢◌, ◌≤◌, ℕ, List, Option, Err};
 ghost use Rattle.outside.specs.Faults.{HasCause, HasShortage, last_count};
 ghost use Rattle.outside.specs.Sink.{Writes};
 
@@ -20,6 +20,7 @@ pub trait Sink {
     fn write(&mut self, bytes: &[u8]) -> Result<(), Fail>
         ensures told { Writes (written self.old) (written self.new) bytes.now result }
         ensures cause { HasCause (fault_count self.old) (fault_count self.new) result }
+        ensures uncounted { result ≢ Err Fail.Failed → fault_count self.new ≡ fault_count self.old }
         ensures shortage { HasShortage (short_count self.old) (short_count self.new) result };
 
     /// The number of faults counted so far: at most 2^63, its last value.

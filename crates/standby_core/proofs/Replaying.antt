@@ -6,6 +6,7 @@ use Rattle.pg_types.specs.declared.names.Lsn.{Lsn}
 use Rattle.wal_page.specs.Page.{is_segment_size}
 use Rattle.wal_record.specs.Decoded.{decoded}
 use Rattle.wal_record.specs.Record.{Record}
+use Rattle.wal_reader.specs.declared.types.EndWhy.{EndWhy}
 use Rattle.wal_reader.specs.declared.types.Next.{Next}
 use Rattle.wal_reader.specs.declared.types.Next.TheVariants as next
 use Rattle.wal_reader.specs.declared.types.ReadFault.{ReadFault}
@@ -14,7 +15,7 @@ use Rattle.wal_reader.specs.declared.types.Stop.{Stop}
 use Rattle.wal_reader.specs.declared.types.Stop.TheVariants as stop
 use Rattle.wal_reader.specs.Calls.{WhereTold}
 use Rattle.wal_reader.specs.Kept.{AreTold, Kept}
-use Rattle.wal_reader.specs.Standing.{Answers, Standing}
+use Rattle.wal_reader.specs.Standing.{Answers, BearsPosition, Standing}
 use Rattle.wal_reader.specs.Step.{Entry, step}
 use Rattle.wal_reader.specs.Told.{Told}
 use Rattle.wal_bodies.specs.declared.types.BodyFault.{BodyFault}
@@ -33,7 +34,7 @@ use Rattle.standby_core.specs.declared.types.Refusal.{Refusal as What}
 use Rattle.standby_model.specs.Log as log
 use Rattle.standby_model.specs.Log.{Stop as LogStop, record_at, stop_by, typed_of, unless_refused}
 use Rattle.standby_core.specs.Standby.{Standby, described_to, told_to}
-use Rattle.standby_core.specs.Replay.{IsRefusedAs, by_blocks, by_record, Replays, redo_refusal}
+use Rattle.standby_core.specs.Replay.{IsRefusedAs, by_blocks, by_record, Replays, ReplaysSome, redo_refusal}
 use Rattle.standby_core.specs.Steps.{GivenReplays, Gives, RecReplays, TypedForm, body_refusal, refusing, unread}
 use Rattle.standby_core.specs.View.{ReplaysTold, standby}
 use Rattle.standby_core.proofs.Refusing.{redone_not_memory}
@@ -204,3 +205,26 @@ refusal_replayed (Some byte) n m found reads others = λ told. let said = reads 
     by (fault.TooLong lsn) h = (by_record log.TooLong (stops_as stop.TooLong h.0) refl same, h.1)
     by fault.Log h = same
     by fault.Memory h = inl same
+
+-- whatever is told, what is answered is the answer to some log
+pub record_replays_some : (old between new : Standby) (reader : Standing) (start end : Lsn) (result : Result Replayed NodeFault)
+    → between ≡ record old { kept = between.kept } → GivenReplays reader start end result between new → ReplaysSome result old new
+record_replays_some old between new reader start end result others replays =
+    let made : Record → Entry = λ r. record { start = start.0; end = end.0; record_ = r } in (
+      Ok (made replays.found),
+      replays_moved old new between.kept (typed_of (described_to old) (Ok (made replays.found))) result
+      (subst (λ node. Replays result node new (typed_of (described_to node) (Ok (made replays.found)))) others replays.replays),
+    )
+
+pub end_replays_some : (old new : Standby) (lsn : Lsn) (why : EndWhy) → new ≡ record old { kept = new.kept } → BearsPosition old.at (Ok (next.AtEnd lsn why))
+    → ReplaysSome (Ok (AtEnd lsn why)) old new
+end_replays_some old new lsn why others bears = (Err (stop.End why), (refl, bears, ap (λ (s : Standby). s.blocks) others))
+
+pub refusal_replays_some : (old new : Standby) (found : ReadFault) → new ≡ record old { kept = new.kept } → BearsPosition old.at (Err found)
+    → ReplaysSome (unread found) old new
+refusal_replays_some old new (fault.Compressed lsn) others bears =
+    (Err stop.Compressed, (by_record log.Compressed refl refl (ap (λ (s : Standby). s.blocks) others), bears))
+refusal_replays_some old new (fault.TooLong lsn) others bears =
+    (Err stop.TooLong, (by_record log.TooLong refl refl (ap (λ (s : Standby). s.blocks) others), bears))
+refusal_replays_some old new fault.Log others bears = (Err stop.TooLong, ap (λ (s : Standby). s.blocks) others)
+refusal_replays_some old new fault.Memory others bears = (Err stop.TooLong, inl (ap (λ (s : Standby). s.blocks) others))

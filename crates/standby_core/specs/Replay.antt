@@ -3,6 +3,8 @@
 use Rattle.std.specs.Prelude.{◌≡◌, ◌⊎◌, ℕ, ◌+◌, ◌^◌, ◌<◌, ◌≤◌, ◌==◌, Bool, false, Option, Some, None, Result, Ok, Err, if◌then◌else◌}
 use Rattle.pg_types.specs.declared.names.Lsn.{Lsn}
 use Rattle.wal_record.specs.declared.types.PrevRule.TheVariants.{Is}
+use Rattle.wal_reader.specs.declared.types.Stop.{Stop as ReadStop}
+use Rattle.wal_reader.specs.Step.{Entry}
 use Rattle.wal_bodies.specs.declared.types.Rec.{Rec}
 use Rattle.wal_bodies.specs.declared.types.RecKind.{RecKind}
 use Rattle.wal_bodies.specs.declared.types.RecKind.TheVariants.{BackupEnd}
@@ -11,14 +13,14 @@ use Rattle.heap_redo.specs.declared.fault.RedoFault.TheVariants as redo
 use Rattle.heap_redo.specs.Redone.{RanOut, redone}
 use Rattle.xact_redo.specs.State.{state_after}
 use Rattle.standby_model.specs.Log as log
-use Rattle.standby_model.specs.Log.{Stop}
+use Rattle.standby_model.specs.Log.{Stop, typed_of}
 use Rattle.standby_core.specs.declared.types.Refusal.{Refusal}
 use Rattle.standby_core.specs.declared.types.Refusal.TheVariants.{Compressed, TooLong, Length, Unsupported, NoPage, NoTuple, PageFull, BadPage}
 use Rattle.standby_core.specs.declared.types.Replayed.{Replayed}
 use Rattle.standby_core.specs.declared.types.Replayed.TheVariants.{Applied, AtEnd, Refused}
 use Rattle.standby_core.specs.declared.types.NodeFault.{NodeFault}
 use Rattle.standby_core.specs.declared.types.NodeFault.TheVariants.{Archive, Memory}
-use Rattle.standby_core.specs.Standby.{Standby}
+use Rattle.standby_core.specs.Standby.{Standby, described_to}
 
 -- the end of the backup that began at this position
 abbrev pub ends_backup : Lsn → RecKind → Bool
@@ -81,6 +83,10 @@ Replays (Ok (AtEnd lsn why)) old new found = (found ≡ Err (log.Ended why)) × 
 Replays (Ok (Refused lsn what)) old new found = IsRefusedAs old new found what × (lsn ≡ old.at)
 Replays (Err Archive) old new found = new.blocks ≡ old.blocks
 Replays (Err Memory) old new found = MayBeRedone old new found
+
+-- where nothing is told of what stands at the node's position, the answer is that of something that may stand there
+abbrev pub ReplaysSome : Result Replayed NodeFault → Standby → Standby → Type 0
+ReplaysSome result old new = (found : Result Entry ReadStop) × Replays result old new (typed_of (described_to old) found)
 
 -- where no record was applied, all but the blocks, and what is kept of the log, is as before
 abbrev pub StaysUnlessApplied : Result Replayed NodeFault → Standby → Standby → Type 0

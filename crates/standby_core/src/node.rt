@@ -40,18 +40,18 @@ pub struct Node {
 }
 
 impl Node {
-    ghost use Rattle.std.specs.Prelude.{◌≡◌, IfOk, Ok, Err, Some, length, ℕ, ◌≤◌};
+    ghost use Rattle.std.specs.Prelude.{◌≡◌, ◌≢◌, IfOk, Ok, Err, Some, length, ℕ, ◌≤◌};
     ghost use Rattle.outside.specs.Faults.{Rose};
     ghost use Rattle.wal_archive.specs.ArchiveLog.{archived_bytes};
     ghost use Rattle.page_store.specs.Content.{content};
     ghost use Rattle.heap_redo.specs.Redone.{view_of};
     ghost use Rattle.wal_record.specs.Decoded.{decoded};
     ghost use Rattle.wal_reader.specs.Calls.{WhereTold};
-    ghost use Rattle.wal_reader.specs.Standing.{Answers, MovesOn as ReadsOn, StandsStill};
+    ghost use Rattle.wal_reader.specs.Standing.{Answers, BearsPosition, MovesOn as ReadsOn, StandsStill};
     ghost use Rattle.wal_reader.specs.Step.{step};
     ghost use Rattle.wal_bodies.specs.Xids.{AreXidsShort};
     ghost use Rattle.standby_core.specs.Standby.{at_origin};
-    ghost use Rattle.standby_core.specs.Replay.{MovesOn, StaysUnlessApplied, awaited_after};
+    ghost use Rattle.standby_core.specs.Replay.{MovesOn, ReplaysSome, StaysUnlessApplied, awaited_after};
     ghost use Rattle.standby_core.specs.Steps.{EndsAt, GivenReplays, Gives, RecReplays, TypedForm};
     ghost use Rattle.standby_core.specs.View.{HasParts, ReplaysTold, standby, status_of};
 
@@ -123,7 +123,7 @@ impl Node {
     ///
     /// After every answer but `Applied` the position and the state of transactions are as before. After
     /// `Refused`, which comes again, and after `Memory` each block is as before the record or as after it.
-    /// `Refused` and `AtEnd` bear the node's position.
+    /// `Refused` and `AtEnd` bear the node's position. So much holds also over an archive that tells nothing.
     ///
     /// # Errors
     /// `Archive` only where the archive's faults rose. `Memory` where memory ran out.
@@ -135,8 +135,10 @@ impl Node {
         ensures known { (standby self.new).known ≡ (standby self.old).known }
         ensures segsize { (standby self.new).segsize ≡ (standby self.old).segsize }
         ensures told { archived_bytes (A.files archive.new) (standby self.old).segsize ≡ archived_bytes (A.files archive.old) (standby self.old).segsize }
+        ensures some { ReplaysSome result (standby self.old) (standby self.new) }
         ensures faults { A.fault_count archive.old ≤ A.fault_count archive.new }
         ensures cause { result ≡ Err NodeFault.Archive → Rose (A.fault_count archive.old) (A.fault_count archive.new) }
+        ensures uncounted { result ≢ Err NodeFault.Archive → A.fault_count archive.new ≡ A.fault_count archive.old }
     {
         match self.read(archive) {
             Ok(Next::Record { start, end }) => self.apply(start, end),
@@ -150,12 +152,14 @@ impl Node {
     fn read<A: Archive>(&mut self, archive: &mut A) -> Result<Next, ReadFault>
         ensures others { standby self.new ≡ record (standby self.old) { kept = (standby self.new).kept } }
         ensures still { StandsStill self.old.reader self.new.reader result }
+        ensures bears { BearsPosition self.old.reader.at result }
         ensures onward { IfOk result (ReadsOn self.old.reader.at) }
         ensures answer { WhereTold (archived_bytes (A.files archive.old) self.old.segsize) (λ _. 1) self.old.reader.source self.new.reader.source
             (λ told. Answers result self.old.reader.at (λ start. decoded self.new.reader.source.text start self.old.reader.prev) (step told self.old.reader.at.0 self.old.reader.prev)) }
         ensures told { archived_bytes (A.files archive.new) self.old.segsize ≡ archived_bytes (A.files archive.old) self.old.segsize }
         ensures faults { A.fault_count archive.old ≤ A.fault_count archive.new }
         ensures cause { result ≡ Err ReadFault.Log → Rose (A.fault_count archive.old) (A.fault_count archive.new) }
+        ensures uncounted { result ≢ Err ReadFault.Log → A.fault_count archive.new ≡ A.fault_count archive.old }
     {
         let mut log = ArchiveLog::plain(archive, self.segsize);
         self.reader.next(&mut log)

@@ -1,5 +1,5 @@
 -- The log of timeline 1 as the segment files of an archive hold it.
-use Rattle.std.specs.Prelude.{ℕ, ◌≡◌, ◌-◌, ◌/◌, ◌%◌, length, min, nat_lt, if◌then◌else◌, List, slice_get, Option, None, Some, Result, IfOk}
+use Rattle.std.specs.Prelude.{ℕ, ◌≡◌, ◌<◌, ◌-◌, ◌/◌, ◌%◌, length, min, nat_lt, if◌then◌else◌, List, slice_get, Option, None, Some, Result, IfOk, IfSome}
 use Rattle.pg_types.specs.declared.fail.Fail.{Fail}
 use Rattle.pg_types.specs.Names.{segment_name_text}
 use Rattle.outside.specs.Log.{log_limit}
@@ -35,3 +35,7 @@ archived_run files size at = if nat_lt at log_limit then file_run (segment_file 
 abbrev pub GivesLongest : Option (List ℕ → Option (List ℕ)) → ℕ → ℕ → List ℕ → Result ℕ Fail → Type 0
 GivesLongest None size at buffer answer = Unit {0}
 GivesLongest (Some files) size at buffer answer = IfOk answer (λ count. count ≡ min (length buffer) (archived_run files size at))
+
+-- where the bytes of a log are told, they are bytes
+abbrev pub AreToldBytes : Option (ℕ → Option ℕ) → Type 0
+AreToldBytes told = IfSome told (λ byte_at. (at : ℕ) → IfSome (byte_at at) (λ byte. byte < 256))

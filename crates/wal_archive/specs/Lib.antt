@@ -1,2 +1,3 @@
 pub mod ArchiveLog
+pub mod Bytes
 pub mod Ends

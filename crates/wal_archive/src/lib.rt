@@ -1,13 +1,13 @@
 //! The log of timeline 1 as the segment files of an archive hold it.
 #![tactic(auto)]
 
-ghost use Rattle.std.specs.Prelude.{◌≡◌, refl, true};
+ghost use Rattle.std.specs.Prelude.{◌≡◌, ◌≢◌, ℕ, refl, true, Err};
 ghost use Rattle.std.proofs.Common.{◌∙◌};
 ghost use Rattle.pg_types.specs.Names.{IsSegmentSize};
 ghost use Rattle.pg_types.specs.SegmentSizes.{IsSegmentSize-prop};
 ghost use Rattle.outside.specs.Faults.{HasCause, Rose};
 ghost use Rattle.outside.specs.Log.{FitsLog, GivesBytes};
-ghost use Rattle.wal_archive.specs.ArchiveLog.{GivesLongest, archived_bytes};
+ghost use Rattle.wal_archive.specs.ArchiveLog.{AreToldBytes, GivesLongest, archived_bytes};
 ghost use Rattle.wal_archive.specs.Ends.{archived_bytes_end};
 ghost use Rattle.outside.specs.Counts.{count_le};
 
@@ -54,6 +54,7 @@ impl<A: Archive> LogBytes for ArchiveLog<'_, A> {
         ensures bytes { GivesBytes (archived_bytes (A.files self.old.archive.now) self.old.segsize) at.0 buf.new result }
         ensures fits { FitsLog at.0 buf.old result }
         ensures cause { HasCause (A.fault_count self.old.archive.now) (A.fault_count self.new.archive.now) result }
+        ensures uncounted { result ≢ Err Fail.Failed → A.fault_count self.new.archive.now ≡ A.fault_count self.old.archive.now }
     {
         if at.0 >= LIMIT {
             return Ok(0);
@@ -82,6 +83,11 @@ impl<A: Archive> LogBytes for ArchiveLog<'_, A> {
 
     ghost ends = { λ log. archived_bytes_end (A.files log.archive.now) log.segsize };
 }
+
+/// What an archive tells as a log of timeline 1 are bytes.
+pub fn archived_log_has_bytes<A: Archive>(_archive: &A)
+    ensures { (size : ℕ) → AreToldBytes (archived_bytes (A.files _archive.now) size) }
+{}
 
 #[cfg(test)]
 mod tests {

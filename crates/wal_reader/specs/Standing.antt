@@ -56,6 +56,15 @@ abbrev pub MovesOn : Lsn → Next → Type 0
 MovesOn at (next.Record start end) = (at.0 < end.0) × (end.0 ≤ 2 ^ 63 + 2 ^ 31)
 MovesOn at (next.AtEnd lsn why) = Unit {0}
 
+-- an answer without a record bears the position where it was read
+abbrev pub BearsPosition : Lsn → Result Next ReadFault → Type 0
+BearsPosition at (Ok (next.Record start end)) = Unit {0}
+BearsPosition at (Ok (next.AtEnd lsn why)) = lsn ≡ at
+BearsPosition at (Err (fault.Compressed lsn)) = lsn ≡ at
+BearsPosition at (Err (fault.TooLong lsn)) = lsn ≡ at
+BearsPosition at (Err fault.Log) = Unit {0}
+BearsPosition at (Err fault.Memory) = Unit {0}
+
 -- the record last given
 abbrev pub record_given : Standing → Given → Result Record RecordFault
 record_given standing given = decoded standing.source.text given.start.0 given.link

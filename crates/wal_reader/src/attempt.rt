@@ -1,4 +1,4 @@
-ghost use Rattle.std.specs.Prelude.{◌≡◌, ◌+◌, ◌-◌, ◌*◌, ◌^◌, ◌<◌, ◌≤◌, ℕ, [], length, Some, None, Ok, Err, IfOk, IfErr, IsOk, IsTrue};
+ghost use Rattle.std.specs.Prelude.{◌≡◌, ◌≢◌, ◌+◌, ◌-◌, ◌*◌, ◌^◌, ◌<◌, ◌≤◌, ℕ, [], length, Some, None, Ok, Err, IfOk, IfErr, IsOk, IsTrue};
 ghost use Rattle.outside.specs.Faults.{Rose};
 ghost use Rattle.wal_page.specs.Page.{is_segment_size};
 ghost use Rattle.wal_record.specs.Decoded.{head_of, decoded};
@@ -25,6 +25,7 @@ impl Source {
         ensures stays { LogStays (L.told log.old) (L.told log.new) (L.owner_of log.old) (L.owner_of log.new) (L.fault_count log.old) (L.fault_count log.new) }
         ensures same_log { L.same log.old log.new }
         ensures cause { result ≡ Err Trouble.Log → Rose (L.fault_count log.old) (L.fault_count log.new) }
+        ensures uncounted { result ≢ Err Trouble.Log → L.fault_count log.new ≡ L.fault_count log.old }
     {
         self.clear();
         let at = self.gather(log, None, 4, start)?;
@@ -48,6 +49,7 @@ impl Source {
         ensures stays { LogStays (L.told log.old) (L.told log.new) (L.owner_of log.old) (L.owner_of log.new) (L.fault_count log.old) (L.fault_count log.new) }
         ensures same_log { L.same log.old log.new }
         ensures cause { result ≡ Err Trouble.Log → Rose (L.fault_count log.old) (L.fault_count log.new) }
+        ensures uncounted { result ≢ Err Trouble.Log → L.fault_count log.new ≡ L.fault_count log.old }
     {
         let (total, at) = self.begin(log, start)?;
         let end = self.gather(log, Some(total - 4), 20, at)?;
@@ -71,6 +73,7 @@ impl Source {
         ensures stays { LogStays (L.told log.old) (L.told log.new) (L.owner_of log.old) (L.owner_of log.new) (L.fault_count log.old) (L.fault_count log.new) }
         ensures same_log { L.same log.old log.new }
         ensures cause { result ≡ Err Trouble.Log → Rose (L.fault_count log.old) (L.fault_count log.new) }
+        ensures uncounted { result ≢ Err Trouble.Log → L.fault_count log.new ≡ L.fault_count log.old }
     {
         let (total, at) = self.head(log, start, prev)?;
         let behind = self.gather(log, Some(total - 24), (total - 24) as usize, at)?;
@@ -93,6 +96,7 @@ impl Source {
         ensures stays { LogStays (L.told log.old) (L.told log.new) (L.owner_of log.old) (L.owner_of log.new) (L.fault_count log.old) (L.fault_count log.new) }
         ensures same_log { L.same log.old log.new }
         ensures cause { result ≡ Err Trouble.Log → Rose (L.fault_count log.old) (L.fault_count log.new) }
+        ensures uncounted { result ≢ Err Trouble.Log → L.fault_count log.new ≡ L.fault_count log.old }
     {
         let found = self.whole(log, start)?;
         match found {

@@ -1,10 +1,10 @@
-ghost use Rattle.std.specs.Prelude.{◌≡◌, ◌+◌, ◌^◌, ◌<◌, ◌≤◌, ℕ, [], Some, None, Ok, Err, IfOk, IfSome, IfErr, IsSome, IsTrue};
+ghost use Rattle.std.specs.Prelude.{◌≡◌, ◌≢◌, ◌+◌, ◌^◌, ◌<◌, ◌≤◌, ℕ, [], Some, None, Ok, Err, IfOk, IfSome, IfErr, IsSome, IsTrue};
 ghost use Rattle.outside.specs.Faults.{Rose};
 ghost use Rattle.wal_page.specs.Page.{is_segment_size};
 ghost use Rattle.wal_record.specs.Decoded.{decoded};
 ghost use Rattle.wal_reader.specs.Step.{step};
 ghost use Rattle.wal_reader.specs.Calls.{LogStays, WhereTold};
-ghost use Rattle.wal_reader.specs.Standing.{Answers, IsLent, MovesOn, SaysGiven, StandsStill, lent_at, next_of, past, record_given, shown};
+ghost use Rattle.wal_reader.specs.Standing.{Answers, BearsPosition, IsLent, MovesOn, SaysGiven, StandsStill, lent_at, next_of, past, record_given, shown};
 
 use crate::source::Source;
 use crate::types::{Given, Next, ReadFault, Refusal, Stop};
@@ -72,12 +72,14 @@ impl Reader {
     /// where the log's faults rose.
     pub fn next<L: LogBytes>(&mut self, log: &mut L) -> Result<Next, ReadFault>
         ensures still { StandsStill self.old self.new result }
+        ensures bears { BearsPosition self.old.at result }
         ensures onward { IfOk result (MovesOn self.old.at) }
         ensures answer { WhereTold (L.told log.old) (L.owner_of log.old) self.old.source self.new.source
             (λ told. Answers result self.old.at (λ start. decoded self.new.source.text start self.old.prev) (step told self.old.at.0 self.old.prev)) }
         ensures stays { LogStays (L.told log.old) (L.told log.new) (L.owner_of log.old) (L.owner_of log.new) (L.fault_count log.old) (L.fault_count log.new) }
         ensures same_log { L.same log.old log.new }
         ensures cause { result ≡ Err ReadFault.Log → Rose (L.fault_count log.old) (L.fault_count log.new) }
+        ensures uncounted { result ≢ Err ReadFault.Log → L.fault_count log.new ≡ L.fault_count log.old }
     {
         let lsn = self.at;
         next_of(lsn, self.advance(log))
@@ -113,6 +115,7 @@ impl Reader {
         ensures stays { LogStays (L.told log.old) (L.told log.new) (L.owner_of log.old) (L.owner_of log.new) (L.fault_count log.old) (L.fault_count log.new) }
         ensures same_log { L.same log.old log.new }
         ensures cause { result ≡ Err Refusal.Log → Rose (L.fault_count log.old) (L.fault_count log.new) }
+        ensures uncounted { result ≢ Err Refusal.Log → L.fault_count log.new ≡ L.fault_count log.old }
     {
         self.given = None;
         self.lent = None;

@@ -1,4 +1,4 @@
-ghost use Rattle.std.specs.Prelude.{◌≡◌, ◌+◌, ◌-◌, ◌%◌, ◌^◌, ◌<◌, ◌≤◌, ℕ, [], ◌++◌, length, Some, None, Ok, Err, IfOk, IfSome, IfErr, OnErr, OnOk, ◌==◌, IsTrue, vec_len};
+ghost use Rattle.std.specs.Prelude.{◌≡◌, ◌≢◌, ◌+◌, ◌-◌, ◌%◌, ◌^◌, ◌<◌, ◌≤◌, ℕ, [], ◌++◌, length, Some, None, Ok, Err, IfOk, IfSome, IfErr, OnErr, OnOk, ◌==◌, IsTrue, vec_len};
 ghost use Rattle.std.specs.Option.{ForSome};
 ghost use Rattle.outside.specs.Faults.{Rose};
 ghost use Rattle.wal_page.specs.Page.{is_segment_size, header_length};
@@ -63,6 +63,7 @@ impl Source {
         ensures stays { LogStays (L.told log.old) (L.told log.new) (L.owner_of log.old) (L.owner_of log.new) (L.fault_count log.old) (L.fault_count log.new) }
         ensures same_log { L.same log.old log.new }
         ensures cause { result ≡ Err Trouble.Log → Rose (L.fault_count log.old) (L.fault_count log.new) }
+        ensures uncounted { result ≢ Err Trouble.Log → L.fault_count log.new ≡ L.fault_count log.old }
     {
         if self.window.cover(log, at, n)? {
             Ok(())
@@ -100,6 +101,7 @@ impl Source {
         ensures stays { LogStays (L.told log.old) (L.told log.new) (L.owner_of log.old) (L.owner_of log.new) (L.fault_count log.old) (L.fault_count log.new) }
         ensures same_log { L.same log.old log.new }
         ensures cause { result ≡ Err Fail.Failed → Rose (L.fault_count log.old) (L.fault_count log.new) }
+        ensures uncounted { result ≢ Err Fail.Failed → L.fault_count log.new ≡ L.fault_count log.old }
     {
         let room = PAGE - (start % 8192) as usize;
         if room < 24 || room == PAGE || !self.window.cover(log, start, 24)? {
@@ -148,6 +150,7 @@ impl Source {
         ensures stays { LogStays (L.told log.old) (L.told log.new) (L.owner_of log.old) (L.owner_of log.new) (L.fault_count log.old) (L.fault_count log.new) }
         ensures same_log { L.same log.old log.new }
         ensures cause { result ≡ Err Trouble.Log → Rose (L.fault_count log.old) (L.fault_count log.new) }
+        ensures uncounted { result ≢ Err Trouble.Log → L.fault_count log.new ≡ L.fault_count log.old }
     {
         let size = self.header_len(at);
         let tli = log.owner(Lsn(at));
@@ -170,6 +173,7 @@ impl Source {
         ensures stays { LogStays (L.told log.old) (L.told log.new) (L.owner_of log.old) (L.owner_of log.new) (L.fault_count log.old) (L.fault_count log.new) }
         ensures same_log { L.same log.old log.new }
         ensures cause { result ≡ Err Trouble.Log → Rose (L.fault_count log.old) (L.fault_count log.new) }
+        ensures uncounted { result ≢ Err Trouble.Log → L.fault_count log.new ≡ L.fault_count log.old }
     {
         if at % 8192 != 0 {
             return Ok(at);
@@ -198,6 +202,7 @@ impl Source {
         ensures stays { LogStays (L.told log.old) (L.told log.new) (L.owner_of log.old) (L.owner_of log.new) (L.fault_count log.old) (L.fault_count log.new) }
         ensures same_log { L.same log.old log.new }
         ensures cause { result ≡ Err Trouble.Log → Rose (L.fault_count log.old) (L.fault_count log.new) }
+        ensures uncounted { result ≢ Err Trouble.Log → L.fault_count log.new ≡ L.fault_count log.old }
     {
         let place = self.place_at(log, missing, at)?;
         let room = left.min(PAGE - (place % 8192) as usize);
@@ -239,6 +244,7 @@ impl Source {
         ensures stays { LogStays (L.told log.old) (L.told log.new) (L.owner_of log.old) (L.owner_of log.new) (L.fault_count log.old) (L.fault_count log.new) }
         ensures same_log { L.same log.old log.new }
         ensures cause { result ≡ Err Trouble.Log → Rose (L.fault_count log.old) (L.fault_count log.new) }
+        ensures uncounted { result ≢ Err Trouble.Log → L.fault_count log.new ≡ L.fault_count log.old }
     {
         let mut at = at;
         let mut left = n;

@@ -1,4 +1,4 @@
-ghost use Rattle.std.specs.Prelude.{◌≡◌, ◌+◌, ◌^◌, ◌<◌, ◌≤◌, ℕ, Some, None, Ok, Err, IfOk, IsOk};
+ghost use Rattle.std.specs.Prelude.{◌≡◌, ◌≢◌, ◌+◌, ◌^◌, ◌<◌, ◌≤◌, ℕ, Some, None, Ok, Err, IfOk, IsOk};
 ghost use Rattle.outside.specs.Faults.{Rose};
 ghost use Rattle.wal_record.specs.Decoded.{decoded};
 ghost use Rattle.wal_record.specs.Record.{Record};
@@ -29,6 +29,7 @@ impl Source {
         ensures stays { LogStays (L.told log.old) (L.told log.new) (L.owner_of log.old) (L.owner_of log.new) (L.fault_count log.old) (L.fault_count log.new) }
         ensures same_log { L.same log.old log.new }
         ensures cause { result ≡ Err Refusal.Log → Rose (L.fault_count log.old) (L.fault_count log.new) }
+        ensures uncounted { result ≢ Err Refusal.Log → L.fault_count log.new ≡ L.fault_count log.old }
     {
         let start = match self.place_at(log, None, at) {
             Ok(start) => start,
@@ -57,6 +58,7 @@ impl Source {
         ensures stays { LogStays (L.told log.old) (L.told log.new) (L.owner_of log.old) (L.owner_of log.new) (L.fault_count log.old) (L.fault_count log.new) }
         ensures same_log { L.same log.old log.new }
         ensures cause { result ≡ Err Refusal.Log → Rose (L.fault_count log.old) (L.fault_count log.new) }
+        ensures uncounted { result ≢ Err Refusal.Log → L.fault_count log.new ≡ L.fault_count log.old }
     {
         match self.attempt(log, place, prev) {
             Ok(found) => self.replacing(begun, place, found, prev),

@@ -1,4 +1,4 @@
-ghost use Rattle.std.specs.Prelude.{◌≡◌, ◌+◌, ◌-◌, ◌%◌, ◌^◌, ◌<◌, ◌≤◌, ℕ, [], length, take, drop, Some, None, Ok, IfOk, IfSome, OnErr, IsTrue, Option, vec_len, if◌then◌else◌};
+ghost use Rattle.std.specs.Prelude.{◌≡◌, ◌≢◌, ◌+◌, ◌-◌, ◌%◌, ◌^◌, ◌<◌, ◌≤◌, ℕ, [], length, take, drop, Some, None, Ok, Err, IfOk, IfSome, OnErr, IsTrue, Option, vec_len, if◌then◌else◌};
 ghost use Rattle.outside.specs.Faults.{HasCause};
 ghost use Rattle.outside.specs.Log.{GivesBytes, FitsLog};
 ghost use Rattle.wal_reader.specs.Told.{told_bytes};
@@ -89,6 +89,7 @@ impl Window {
         ensures same_owner { L.owner_of log.new ≡ L.owner_of log.old }
         ensures same_log { L.same log.old log.new }
         ensures cause { HasCause (L.fault_count log.old) (L.fault_count log.new) result }
+        ensures uncounted { result ≢ Err Fail.Failed → L.fault_count log.new ≡ L.fault_count log.old }
     {
         let end = STRETCH - (self.from % 65536) as usize;
         let at = self.from + self.have as u64;
@@ -110,6 +111,7 @@ impl Window {
         ensures same_owner { L.owner_of log.new ≡ L.owner_of log.old }
         ensures same_log { L.same log.old log.new }
         ensures cause { HasCause (L.fault_count log.old) (L.fault_count log.new) result }
+        ensures uncounted { result ≢ Err Fail.Failed → L.fault_count log.new ≡ L.fault_count log.old }
     {
         if at >= LIMIT {
             return Ok(false);
@@ -149,6 +151,7 @@ fn read_into<L: LogBytes>(
     ensures same_owner { L.owner_of log.new ≡ L.owner_of log.old }
     ensures same_log { L.same log.old log.new }
     ensures cause { HasCause (L.fault_count log.old) (L.fault_count log.new) result }
+    ensures uncounted { result ≢ Err Fail.Failed → L.fault_count log.new ≡ L.fault_count log.old }
 {
     log.bytes_at(Lsn(at), &mut page[have..end])
 }

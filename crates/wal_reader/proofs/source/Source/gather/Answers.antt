@@ -20,6 +20,7 @@ loop-left-init g c =
       bounded = λ h. h;
       same = refl;
       stays = record { told_stays = refl; owner_stays = refl; grows = omega arith };
+      uncounted = refl;
       same_log = g.met.L.LogBytes.same_self c.args.log.now;
       answer = where_start (g.L.LogBytes.told c.args.log.now) (g.L.LogBytes.owner_of c.args.log.now) c.args.self.now
           (λ told. SaysText (Ok c.args.at) c.args.self.now.text c.args.self.now.text (gathered told c.args.missing (c.args.n - c.args.n) c.args.at))
@@ -66,6 +67,7 @@ loop-left-preserved g c =
         owner_stays = stays.owner_stays ∙ inv.stays.owner_stays;
         grows = let a = inv.stays.grows in let b = stays.grows in omega arith;
       };
+      uncounted = c.in_ok-end.ensures.uncounted (λ e. cc) ∙ inv.uncounted;
       same_log = g.met.L.LogBytes.same_later c.args.log.now l.log c.gather_page.new.log inv.same_log c.in_ok-end.ensures.same_log;
       answer = where_chain (g.L.LogBytes.told c.args.log.now) (g.L.LogBytes.told l.log) (g.L.LogBytes.owner_of c.args.log.now) (g.L.LogBytes.owner_of l.log)
           old l.self c.gather_page.new.self c.gather_page.new.self

@@ -14,6 +14,7 @@ invariant-loop-left g l = record {
   bounded : l.fn.at ≤ 2 ^ 63 → l.at ≤ 2 ^ 63;
   same : l.self ≡ record l.fn.self { kept = l.self.kept; text = l.self.text };
   stays : LogStays (g.L.LogBytes.told l.fn.log) (g.L.LogBytes.told l.log) (g.L.LogBytes.owner_of l.fn.log) (g.L.LogBytes.owner_of l.log) (g.L.LogBytes.fault_count l.fn.log) (g.L.LogBytes.fault_count l.log);
+  uncounted : g.L.LogBytes.fault_count l.log ≡ g.L.LogBytes.fault_count l.fn.log;
   same_log : g.L.LogBytes.same l.fn.log l.log;
   answer : WhereTold (g.L.LogBytes.told l.fn.log) (g.L.LogBytes.owner_of l.fn.log) l.fn.self l.self
       (λ told. SaysText (Ok l.at) l.fn.self.text l.self.text (gathered told l.fn.missing (l.fn.n - l.left) l.fn.at));

@@ -1,4 +1,4 @@
-use Rattle.std.proofs.Common.{◌+◌, ◌-◌, ◌%◌, ◌^◌, ◌<◌, ◌≤◌, length, IfSome}
+use Rattle.std.proofs.Common.{◌≡◌, ◌+◌, ◌-◌, ◌%◌, ◌^◌, ◌<◌, ◌≤◌, length, IfSome}
 use Rattle.wal_reader.specs.Calls.{LogStays}
 use Rattle.wal_reader.specs.Kept.{AreTold}
 use Rattle.wal_reader.proofs.window.Window.cover.Given as goal
@@ -9,6 +9,7 @@ invariant-loop-self g l =
     × LogStays (g.L.LogBytes.told l.fn.log) (g.L.LogBytes.told l.log) (g.L.LogBytes.owner_of l.fn.log) (g.L.LogBytes.owner_of l.log) (g.L.LogBytes.fault_count l.fn.log) (g.L.LogBytes.fault_count l.log)
     × IfSome (g.L.LogBytes.told l.fn.log) (λ byte. AreTold byte l.fn.self → AreTold byte l.self)
     × g.L.LogBytes.same l.fn.log l.log
+    × (g.L.LogBytes.fault_count l.log ≡ g.L.LogBytes.fault_count l.fn.log)
 
 abbrev pub decreases-loop-self : goal.decreases-loop-self
 decreases-loop-self g l = l.at + l.n - (l.self.from + length l.self.bytes)
