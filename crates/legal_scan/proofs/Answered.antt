@@ -1,11 +1,10 @@
 -- The program's answer over a legal log.
-use Rattle.std.proofs.Common.{◌≡◌, ℕ, zero, suc, ◌+◌, ◌<◌, ◌≤◌, ◌⊎◌, inl, inr, Bool, true, false, not, ◌&&◌, nat_lt, nat_le, List, [], ◌∷◌, Option, Some, None, arith, refl, sym, ap, subst, ◌∙◌}
+use Rattle.std.proofs.Common.{◌≡◌, ℕ, zero, suc, ◌+◌, ◌<◌, ◌≤◌, ◌⊎◌, inl, inr, Bool, true, false, not, ◌&&◌, nat_lt, nat_le, List, [], ◌∷◌, Option, Some, None, Result, Ok, Err, arith, lit<, refl, sym, ap, subst, ◌∙◌}
 use Rattle.std.specs.Prelude.{is_some, if◌then◌else◌, nat_eq}
 use Rattle.std.specs.Cmp.Lexicographic.{pointwise}
 use Rattle.std.proofs.lemmas.Bool.{and_parts, le-leb, le-ltb, lt-ltb}
 use Rattle.pg_types.specs.declared.names.Lsn.{Lsn}
 use Rattle.wal_bodies.specs.declared.types.Rec.{Rec}
-use Rattle.wal_reader.specs.declared.types.EndWhy.{EndWhy}
 use Rattle.known_assigned.specs.declared.state.State.{State}
 use Rattle.known_assigned.specs.declared.state.State.TheVariants.{Initialized, Pending, Ready}
 use Rattle.heap_redo.specs.Redone.{Seen, absent, bad_block, seen_page, table_of}
@@ -20,15 +19,19 @@ use Rattle.row_model.specs.Shown.{ShowsSeen, ShowsTable}
 use Rattle.row_redo.specs.Shown.{BlocksShowVersions}
 use Rattle.row_visibility.specs.Sees.{SeesRows, StateAlong, state_along}
 use Rattle.row_pages.specs.Pages.{ScanGivesRows, SeesThem}
+use Rattle.heap_redo.specs.declared.fault.RedoFault.{RedoFault}
+use Rattle.standby_core.specs.Replay.{refusal_of}
 use Rattle.standby_core.specs.Standby.{Standby}
-use Rattle.standby_model.specs.Archived.{origin, told_by}
-use Rattle.standby_model.specs.Laws.{OneLog}
-use Rattle.standby_model.specs.Log.{Leads, Stop, Ended}
-use Rattle.standby_model.specs.Tables.{known, number_of, table_t, table_u, table_with}
-use Rattle.standby_model.specs.Scan.{Reply, NotAdmitted, Scanned, AnswersOpening, AnswersRows as AnswersBlocks, AnswersStop, AnswersTable, is_admitted, is_ready, is_there, is_whole, page_of, pages_from}
-use Rattle.standby_model.proofs.Replies.{one_count}
-use Rattle.legal_scan.specs.Answer.{AnswersAdmitted, AnswersRows, IsLegal, LegalScan, admits, committed_in, has_backup_ended, origin_with, page_with}
-use Rattle.legal_scan.proofs.Along.{awaited_along, awaited_with, awaits, min_along, past_redo, redoes, transactions_along}
+use Rattle.standby_model.specs.Archived.{told_by}
+use Rattle.standby_model.specs.Laws.{LogRises, Rises}
+use Rattle.standby_model.specs.Log.{Stop, Ended, Refused, end_of, next_of}
+use Rattle.scan_model.specs.Run.{origin, redone_at, redone_on, replayed}
+use Rattle.scan_model.specs.Tables.{described, known, number_of, table_t, table_u, table_with}
+use Rattle.scan_model.specs.Scan.{Reply, LogRefused, NotAdmitted, Scanned, AnswersBlocks as AnswersRefused, AnswersNext, AnswersOpening, AnswersRows as AnswersBlocks, AnswersTable as AnswersNumber, is_admitted, is_ready, is_there, is_whole, page_of, pages_from}
+use Rattle.scan_model.proofs.Replies.{one_count}
+use Rattle.scan_model.proofs.Runs.{set_up}
+use Rattle.legal_scan.specs.Answer.{AnswersAdmitted, AnswersRows, AnswersTable, IsLegal, IsLegalLog, LegalAnswer, LegalScan, admits, committed_in, has_backup_ended, origin_with, page_with}
+use Rattle.legal_scan.proofs.Along.{awaited_along, awaited_with, awaits, past_redo, redoes, replayed_where, transactions_along}
 
 -- the table that a name names is t or u
 number_from :
@@ -38,9 +41,9 @@ number_from true b table e = inl cc
 number_from false true table e = inr cc
 number_from false false table e = cc
 
-described : (table : ℕ) → (table ≡ 0) ⊎ (table ≡ 1) → table_of known (table_with table).file ≡ Some table
-described table (inl e) = subst (λ (n : ℕ). table_of known (table_with n).file ≡ Some n) (sym e) refl
-described table (inr e) = subst (λ (n : ℕ). table_of known (table_with n).file ≡ Some n) (sym e) refl
+file_of : (table : ℕ) → (table ≡ 0) ⊎ (table ≡ 1) → table_of known (table_with table).file ≡ Some table
+file_of table (inl e) = subst (λ (n : ℕ). table_of known (table_with n).file ≡ Some n) (sym e) refl
+file_of table (inr e) = subst (λ (n : ℕ). table_of known (table_with n).file ≡ Some n) (sym e) refl
 
 -- whether a block is there
 seen_there :
@@ -69,16 +72,17 @@ ready_when Ready e = refl
 
 -- admission, by the log
 admitted_is :
-    (log : List Rec) (node : Standby) (files : List ℕ → Option (List ℕ)) → Leads (told_by files) log node
+    (log : List Rec) (node : Standby) → Rises origin.redo.0 log → replayed log ≡ Ok node
     → (state_along log).known.mode ≡ state_of (transactions_of log) → is_admitted node ≡ admits log
-admitted_is log node files leads mode =
-    let told = told_by files in
+admitted_is log node rises leads mode =
+    let is = set_up log node leads in
+    let past : origin.redo.0 ≤ node.at.0 = let p = past_redo origin.redo.0 log rises in let at = is.at_is in omega (arith, at, p) in
     let reached : nat_le node.min.0 node.at.0 ≡ true =
-    ap (λ (l : Lsn). nat_le l.0 node.at.0) (min_along told log node leads) ∙ le-leb origin.redo.0 node.at.0 (past_redo told log node leads) in
+    ap (λ (l : Lsn). nat_le l.0 node.at.0) is.min_is ∙ le-leb origin.redo.0 node.at.0 past in
     let waiting : not (is_some node.awaited) ≡ has_backup_ended log =
-    ap (λ (a : Option Lsn). not (is_some a)) (awaited_along told log node leads) ∙ ended (has_backup_ended log) in
+    ap (λ (a : Option Lsn). not (is_some a)) (awaited_along log node leads) ∙ ended (has_backup_ended log) in
     let knows : node.transactions.known.mode ≡ state_of (transactions_of log) =
-    ap (λ (t : TransactionState). t.known.mode) (transactions_along told log node leads) ∙ mode in
+    ap (λ (t : TransactionState). t.known.mode) (transactions_along log node leads) ∙ mode in
     ap (λ (b : Bool). b && not (is_some node.awaited) && is_ready node.transactions.known.mode) reached
     ∙ ap (λ (b : Bool). b && is_ready node.transactions.known.mode) waiting
     ∙ ap (λ (m : State). has_backup_ended log && is_ready m) knows
@@ -89,28 +93,30 @@ admitted_is log node files leads mode =
 
 -- a scan that is not admitted
 refused :
-    (top : ℕ → ℕ) (log : List Rec) (node : Standby) (files : List ℕ → Option (List ℕ)) (table : ℕ) (reply : Reply)
-    → Leads (told_by files) log node → (state_along log).known.mode ≡ state_of (transactions_of log)
+    (top : ℕ → ℕ) (log : List Rec) (node : Standby) (table : ℕ) (reply : Reply) → replayed log ≡ Ok node
+    → (state_along log).known.mode ≡ state_of (transactions_of log)
     → reply ≡ NotAdmitted node.min.0 node.at.0 (is_some node.awaited) node.transactions.known.mode
-    → AnswersAdmitted false top log table node.at.0 reply
-refused top log node files table reply leads mode says =
-    let told = told_by files in
+    → AnswersAdmitted false top log table (end_of origin.redo.0 log) reply
+refused top log node table reply leads mode says =
+    let is = set_up log node leads in
+    let end = end_of origin.redo.0 log in
     says
-    ∙ ap (λ (l : Lsn). NotAdmitted l.0 node.at.0 (is_some node.awaited) node.transactions.known.mode) (min_along told log node leads)
-    ∙ ap (λ (b : Bool). NotAdmitted origin.redo.0 node.at.0 b node.transactions.known.mode)
-    (ap (λ (a : Option Lsn). is_some a) (awaited_along told log node leads) ∙ awaits (has_backup_ended log))
-    ∙ ap (λ (m : State). NotAdmitted origin.redo.0 node.at.0 (not (has_backup_ended log)) m)
-    (ap (λ (t : TransactionState). t.known.mode) (transactions_along told log node leads) ∙ mode)
+    ∙ ap (λ (l : Lsn). NotAdmitted l.0 node.at.0 (is_some node.awaited) node.transactions.known.mode) is.min_is
+    ∙ ap (λ (at : ℕ). NotAdmitted origin.redo.0 at (is_some node.awaited) node.transactions.known.mode) is.at_is
+    ∙ ap (λ (b : Bool). NotAdmitted origin.redo.0 end b node.transactions.known.mode)
+    (ap (λ (a : Option Lsn). is_some a) (awaited_along log node leads) ∙ awaits (has_backup_ended log))
+    ∙ ap (λ (m : State). NotAdmitted origin.redo.0 end (not (has_backup_ended log)) m)
+    (ap (λ (t : TransactionState). t.known.mode) (transactions_along log node leads) ∙ mode)
 
 -- a scan that is admitted
 scanned :
-    BlocksShowVersions → SeesRows → ScanGivesRows → (top : ℕ → ℕ) (log : List Rec) (node : Standby)
-    (files : List ℕ → Option (List ℕ)) (table : ℕ) (reply : Reply) → (table ≡ 0) ⊎ (table ≡ 1) → IsLegal top log
-    → Leads (told_by files) log node → (state_along log).known.mode ≡ Ready → AnswersBlocks node table reply
-    → AnswersRows top log table node.at.0 reply
-scanned shown seen gives top log node files table reply is legal leads ready answer =
-    let told = told_by files in
+    BlocksShowVersions → SeesRows → ScanGivesRows → (top : ℕ → ℕ) (log : List Rec) (node : Standby) (table : ℕ) (reply : Reply)
+    → (table ≡ 0) ⊎ (table ≡ 1) → IsLegalLog top log → Rises origin.redo.0 log → replayed log ≡ Ok node
+    → (state_along log).known.mode ≡ Ready → AnswersBlocks node table reply
+    → AnswersRows top log table (end_of origin.redo.0 log) reply
+scanned shown seen gives top log node table reply is legal rises leads ready answer =
     let o = origin_with top in
+    let end = end_of origin.redo.0 log in
     let txs = transactions_of log in
     let file = (table_with table).file in
     let vs = versions file log in
@@ -118,56 +124,81 @@ scanned shown seen gives top log node files table reply is legal leads ready ans
     let columns = (table_with table).columns in
     let sees_in = sees (state_along log) in
     let shows : ShowsTable o.at txs vs count (node.blocks table) =
-    shown o known log node.blocks node.at.0 table file (described table is) legal (redoes told log node leads) in
+    shown o known log node.blocks node.at.0 table file (file_of table is) legal.rules (redoes log node rises leads) in
     let see_them : SeesThem (committed_in top log) o.at txs sees_in =
-    λ v tuple s single. seen o log (λ x. (refl, refl)) legal.transactions ready v tuple s single in
+    λ v tuple s single. seen o log (λ x. (refl, refl)) legal.rules.transactions ready v tuple s single in
     let (rows, are_rows, scans) = gives (committed_in top log) o.at txs vs count (node.blocks table) columns sees_in shows see_them in
     let same : answer.blocks ≡ count =
     one_count (λ block. is_there (node.blocks table block)) answer.blocks count answer.count
     (λ block. seen_there o.at txs vs count block (node.blocks table block) (shows.shows block)) in
     let pages : (block : ℕ) → block < count → page_of node table block ≡ page_with table rows block =
-    λ block less. ap (λ (t : TransactionState). page_of (record node { transactions = t }) table block) (transactions_along told log node leads)
+    λ block less. ap (λ (t : TransactionState). page_of (record node { transactions = t }) table block) (transactions_along log node leads)
     ∙ scans.each block less in
     record {
       rows = rows;
       are_rows = are_rows;
       says = answer.says
-          ∙ ap (λ (n : ℕ). Scanned node.at.0 table n (pages_from (page_of node table) 0 n)) same
-          ∙ ap (λ (ps : List BlockRows). Scanned node.at.0 table count ps)
+          ∙ ap (λ (at : ℕ). Scanned at table answer.blocks (pages_from (page_of node table) 0 answer.blocks)) (set_up log node leads).at_is
+          ∙ ap (λ (n : ℕ). Scanned end table n (pages_from (page_of node table) 0 n)) same
+          ∙ ap (λ (ps : List BlockRows). Scanned end table count ps)
           (pages_same (page_of node table) (page_with table rows) 0 count (λ b low high. pages b (omega arith)));
     }
 
 by_admission :
-    BlocksShowVersions → SeesRows → ScanGivesRows → (top : ℕ → ℕ) (log : List Rec) (node : Standby)
-    (files : List ℕ → Option (List ℕ)) (table : ℕ) (reply : Reply) → (table ≡ 0) ⊎ (table ≡ 1) → IsLegal top log
-    → Leads (told_by files) log node → (state_along log).known.mode ≡ state_of (transactions_of log)
+    BlocksShowVersions → SeesRows → ScanGivesRows → (top : ℕ → ℕ) (log : List Rec) (node : Standby) (table : ℕ) (reply : Reply)
+    → (table ≡ 0) ⊎ (table ≡ 1) → IsLegalLog top log → Rises origin.redo.0 log → replayed log ≡ Ok node
+    → (state_along log).known.mode ≡ state_of (transactions_of log)
     → (admitted : Bool) → admits log ≡ admitted → AnswersOpening node table admitted reply
-    → AnswersAdmitted admitted top log table node.at.0 reply
-by_admission shown seen gives top log node files table reply is legal leads mode true e answer =
-    scanned shown seen gives top log node files table reply is legal leads
+    → AnswersAdmitted admitted top log table (end_of origin.redo.0 log) reply
+by_admission shown seen gives top log node table reply is legal rises leads mode true e answer =
+    scanned shown seen gives top log node table reply is legal rises leads
     (ready_when (state_along log).known.mode (ap is_ready mode ∙ (and_parts _ _ e).1)) answer
-by_admission shown seen gives top log node files table reply is legal leads mode false e answer =
-    refused top log node files table reply leads mode answer
+by_admission shown seen gives top log node table reply is legal rises leads mode false e answer =
+    refused top log node table reply leads mode answer
 
-opening_of :
-    (node : Standby) (name : List ℕ) (table : ℕ) (reply : Reply) → number_of name ≡ Some table → AnswersTable node (number_of name) reply
-    → AnswersOpening node table (is_admitted node) reply
-opening_of node name table reply e answer = subst (λ (n : Option ℕ). AnswersTable node n reply) e answer
+-- where the log ends, by the table
+by_table :
+    BlocksShowVersions → StateAlong → SeesRows → ScanGivesRows → (top : ℕ → ℕ) (log : List Rec) (node : Standby) (name : List ℕ)
+    (number : Option ℕ) (reply : Reply) → number_of name ≡ number → IsLegalLog top log → Rises origin.redo.0 log
+    → replayed log ≡ Ok node → AnswersNumber node number reply → AnswersTable top log number reply
+by_table shown along seen gives top log node name None reply e legal rises leads answer = answer
+by_table shown along seen gives top log node name (Some table) reply e legal rises leads answer =
+    let mode = along (origin_with top) log legal.rules.transactions in
+    let admitted = admitted_is log node rises leads mode in
+    by_admission shown seen gives top log node table reply
+    (number_from (pointwise nat_eq name table_t.name) (pointwise nat_eq name table_u.name) table e) legal rises leads mode
+    (admits log) refl (subst (λ (b : Bool). AnswersOpening node table b reply) admitted answer)
 
-stop_of :
-    (name : List ℕ) (node there : Standby) (stop : Stop) (why : EndWhy) (reply : Reply) → there ≡ node → stop ≡ Ended why
-    → AnswersStop name there stop reply → AnswersTable node (number_of name) reply
-stop_of name node there stop why reply e f says =
-    subst (λ (n : Standby). AnswersStop name n (Ended why) reply) e (subst (λ (s : Stop). AnswersStop name there s reply) f says)
+-- over a legal log no record is refused at its blocks
+not_refused :
+    (rec : Rec) (log : List Rec) (node next : Standby) (reply : Reply) → replayed log ≡ Ok node → replayed (rec ∷ log) ≡ Ok next
+    → AnswersRefused node (redone_at rec node) reply → ⊥
+not_refused rec log node next reply leads on answer =
+    let here : redone_at rec node ≡ Ok next = sym (ap (λ (r : Result Standby RedoFault). redone_on rec r) leads) ∙ on in
+    subst (λ (r : Result Standby RedoFault). AnswersRefused node r reply) here answer
 
-pub legal_scan_holds : OneLog → BlocksShowVersions → StateAlong → SeesRows → ScanGivesRows → LegalScan
-legal_scan_holds one shown along seen gives top files log node why name table reply is named answer =
-    let same = one (told_by files) answer.log log answer.node node answer.stop (Ended why) answer.is_log is.is_log in
-    let o = origin_with top in
-    let mode = along o log is.legal.transactions in
-    let leads = is.is_log.leads in
-    let admitted = admitted_is log node files leads mode in
-    let opens = opening_of node name table reply named (stop_of name node answer.node answer.stop why reply same.1 same.2 answer.says) in
-    by_admission shown seen gives top log node files table reply
-    (number_from (pointwise nat_eq name table_t.name) (pointwise nat_eq name table_u.name) table named) is.legal leads mode
-    (admits log) refl (subst (λ (b : Bool). AnswersOpening node table b reply) admitted opens)
+pub legal_scan_holds : LogRises → BlocksShowVersions → StateAlong → SeesRows → ScanGivesRows → LegalScan
+legal_scan_holds all_rise shown along seen gives top files name reply is answer =
+    by (next_of (told_by files) described origin.redo.0 answer.log) refl answer.says
+  where
+    by :
+        (found : Result Rec Stop) → next_of (told_by files) described origin.redo.0 answer.log ≡ found
+        → AnswersNext name answer.node found reply → LegalAnswer top files name reply
+    by (Ok rec) e says =
+        let legal = is (rec ∷ answer.log) (e, answer.stands) in
+        let (next, on, same) = replayed_where (rec ∷ answer.log) legal.view legal.redone in
+        absurd (not_refused rec answer.log answer.node next reply answer.is_replayed on says)
+    by (Err (Refused what)) e says = record {
+      log = answer.log;
+      stop = Refused what;
+      is_log = record { stands = answer.stands; stops = e };
+      says = says ∙ ap (λ (at : ℕ). LogRefused at (refusal_of what)) (set_up answer.log answer.node answer.is_replayed).at_is;
+    }
+    by (Err (Ended why)) e says = record {
+      log = answer.log;
+      stop = Ended why;
+      is_log = record { stands = answer.stands; stops = e };
+      says = by_table shown along seen gives top answer.log answer.node name (number_of name) reply refl
+          (is answer.log answer.stands)
+          (all_rise (told_by files) described origin.redo.0 answer.log (lit< tt) answer.stands) answer.is_replayed says;
+    }

@@ -1,11 +1,12 @@
--- What a scan answers over a log that a primary could write: scans are admitted exactly where the base backup has ended
--- and the running transactions are known, and then the rows are those that were committed at the log's end, in order
--- of place.
+-- What a scan answers over a log that a primary could write. No record is refused at its blocks. Where the next record is
+-- refused for its form or its body, the answer is that. Else scans of a described table are admitted exactly where the base
+-- backup has ended and the running transactions are known, and then the rows are those that were committed at the log's
+-- end, in order of place.
 -- Sources: xlogrecovery.c (CheckRecoveryConsistency), procarray.c (ProcArrayApplyRecoveryInfo), heapam.c (heapgettup).
-use Rattle.std.specs.Prelude.{◌≡◌, ℕ, Bool, true, false, not, ◌&&◌, List, filter, Option, Some}
+use Rattle.std.specs.Prelude.{◌≡◌, ℕ, Bool, true, false, not, ◌&&◌, List, filter, Option, Some, None, Ok}
 use Rattle.std.specs.List.{list_any}
 use Rattle.wal_bodies.specs.declared.types.Rec.{Rec}
-use Rattle.wal_reader.specs.declared.types.EndWhy.{EndWhy}
+use Rattle.heap_redo.specs.Redone.{View}
 use Rattle.seq_scan.specs.BlockRows.{BlockRows}
 use Rattle.transaction_model.specs.Transactions.{committed, state_of}
 use Rattle.transaction_model.specs.LegalTransactions.{Origin}
@@ -15,20 +16,27 @@ use Rattle.row_model.specs.RowSteps.{block_count, versions}
 use Rattle.row_model.specs.Rows.{IsRows}
 use Rattle.row_model.specs.LegalRows.{LegalLog}
 use Rattle.row_pages.specs.Pages.{is_in_block, values_of}
-use Rattle.standby_core.specs.Replay.{ends_backup}
-use Rattle.standby_core.specs.Standby.{Standby}
-use Rattle.standby_model.specs.Archived.{origin, told_by}
-use Rattle.standby_model.specs.Log.{IsLog, Ended}
-use Rattle.standby_model.specs.Tables.{known, number_of, table_with}
-use Rattle.standby_model.specs.Scan.{Reply, NotAdmitted, Scanned, AnswersLog, is_ready, pages_from, table_of}
+use Rattle.standby_core.specs.Replay.{ends_backup, refusal_of}
+use Rattle.standby_model.specs.Archived.{told_by}
+use Rattle.standby_model.specs.Log.{IsLog, Stands, Stop, Ended, Refused, end_of}
+use Rattle.scan_model.specs.Run.{origin}
+use Rattle.scan_model.specs.Tables.{described, known, number_of, table_with}
+use Rattle.scan_model.specs.Scan.{Reply, LogRefused, NoTable, NotAdmitted, Scanned, AnswersLog, is_ready, pages_from, table_of}
+use Rattle.legal_scan.specs.Redone.{view_after}
 
 -- where the log begins no transaction has a status; `top` leads from a subtransaction to its top transaction
 abbrev pub origin_with : (ℕ → ℕ) → Origin
 origin_with top = record { at = record { is_committed = λ x. false; is_aborted = λ x. false }; top = top }
 
--- a log that a primary could write, of the described tables
-abbrev pub IsLegal : (ℕ → ℕ) → List Rec → Type 0
-IsLegal top log = LegalLog (origin_with top) known log
+-- a log that a primary could write, of the described tables: redo of it meets no refusal
+pub record IsLegalLog (top : ℕ → ℕ) (log : List Rec) : Type 0 where
+  pub rules : LegalLog (origin_with top) known log
+  pub view : View
+  pub redone : view_after known log ≡ Ok view
+
+-- each front of the log that the files tell is one
+abbrev pub IsLegal : (ℕ → ℕ) → (List ℕ → Option (List ℕ)) → Type 0
+IsLegal top files = (log : List Rec) → Stands (told_by files) described origin.redo.0 log → IsLegalLog top log
 
 -- the base backup, which began at the redo position, has ended
 abbrev pub has_backup_ended : List Rec → Bool
@@ -58,26 +66,31 @@ AnswersAdmitted true top log table end reply = AnswersRows top log table end rep
 AnswersAdmitted false top log table end reply =
     reply ≡ NotAdmitted origin.redo.0 end (not (has_backup_ended log)) (state_of (transactions_of log))
 
--- the answer of a scan of a described table over a legal log
-abbrev pub LegalAnswer : (ℕ → ℕ) → List Rec → ℕ → ℕ → Reply → Type 0
-LegalAnswer top log table end reply = AnswersAdmitted (admits log) top log table end reply
+-- where the log ends, by the table
+abbrev pub AnswersTable : (ℕ → ℕ) → List Rec → Option ℕ → Reply → Type 0
+AnswersTable top log None reply = reply ≡ NoTable
+AnswersTable top log (Some table) reply = AnswersAdmitted (admits log) top log table (end_of origin.redo.0 log) reply
 
--- the log is told by the archive's files, whole, and a primary could write it
-pub record IsLegalLog (top : ℕ → ℕ) (files : List ℕ → Option (List ℕ)) (log : List Rec) (node : Standby) (why : EndWhy) : Type 0 where
-  pub is_log : IsLog (told_by files) log node (Ended why)
-  pub legal : IsLegal top log
+-- the next record is refused for its form or its body, or the log ends
+abbrev pub AnswersStop : (ℕ → ℕ) → List ℕ → List Rec → Stop → Reply → Type 0
+AnswersStop top name log (Refused what) reply = reply ≡ LogRefused (end_of origin.redo.0 log) (refusal_of what)
+AnswersStop top name log (Ended why) reply = AnswersTable top log (number_of name) reply
+
+-- the answer over the log that the files tell, where a primary could write each front of it
+pub record LegalAnswer (top : ℕ → ℕ) (files : List ℕ → Option (List ℕ)) (name : List ℕ) (reply : Reply) : Type 0 where
+  pub log : List Rec
+  pub stop : Stop
+  pub is_log : IsLog (told_by files) described origin.redo.0 log stop
+  pub says : AnswersStop top name log stop reply
 
 -- what is answered over a legal log is that
 abbrev pub LegalScan : Type 0
 LegalScan =
-    (top : ℕ → ℕ) (files : List ℕ → Option (List ℕ)) (log : List Rec) (node : Standby) (why : EndWhy)
-    (name : List ℕ) (table : ℕ) (reply : Reply)
-    → IsLegalLog top files log node why → number_of name ≡ Some table → AnswersLog name files reply
-    → LegalAnswer top log table node.at.0 reply
+    (top : ℕ → ℕ) (files : List ℕ → Option (List ℕ)) (name : List ℕ) (reply : Reply)
+    → IsLegal top files → AnswersLog name files reply → LegalAnswer top files name reply
 
--- whatever legal log the files tell whole, the answer to the words, which name a described table, is that
+-- where the files tell a legal log, the answer to words that are `scan` and a table is that
 abbrev pub WhereLegal : List (List ℕ) → (List ℕ → Option (List ℕ)) → (Reply → Type 0) → Type 0
 WhereLegal words files P =
-    (top : ℕ → ℕ) (log : List Rec) (node : Standby) (why : EndWhy) (name : List ℕ) (table : ℕ)
-    → IsLegalLog top files log node why → table_of words ≡ Some name → number_of name ≡ Some table
-    → (reply : Reply) × LegalAnswer top log table node.at.0 reply × P reply
+    (top : ℕ → ℕ) (name : List ℕ) → IsLegal top files → table_of words ≡ Some name
+    → (reply : Reply) × LegalAnswer top files name reply × P reply

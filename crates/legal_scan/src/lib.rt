@@ -3,12 +3,13 @@
 
 ghost use Rattle.legal_scan.specs.Answer.{LegalScan};
 
-/// Over a legal log scans are admitted exactly where the base backup has ended and the running
+/// Over a legal log no record is refused at its blocks. Where the next record is refused for its form or its body, the
+/// answer is that. Else scans of a described table are admitted exactly where the base backup has ended and the running
 /// transactions are known, and then give the rows that were committed at the log's end, in order of place.
 pub fn legal_scan()
     ensures { LegalScan }
 {
-    standby_model::one_log();
+    standby_model::log_rises();
     row_redo::blocks_show_versions();
     row_visibility::state_along();
     row_visibility::sees_rows();

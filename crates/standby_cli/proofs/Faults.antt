@@ -1,11 +1,12 @@
 -- The line of a fault after a front of an answer's text.
-use Rattle.std.proofs.Common.{ℕ, ◌≤◌, ◌⊎◌, inl, inr, List, ◌++◌, Option, Some, None, IfSome, take, subst, arith}
+use Rattle.std.proofs.Common.{ℕ, ◌≤◌, ◌⊎◌, inl, inr, List, [], ◌++◌, Option, Some, None, IfSome, refl, subst, arith}
 use Rattle.outside.specs.Faults.{Rose}
 use Rattle.outside.specs.Sink.{Appends, AppendsPrefix}
-use Rattle.standby_cli.specs.Outcome.{AppendsUnless, CutsOff}
+use Rattle.standby_cli.specs.Outcome.{AppendsLines, AppendsUnless, CutsOff, IsFront}
+use Rattle.standby_cli.specs.Front.{IsFrontOfAnswer}
 use Rattle.standby_cli.proofs.Appending.{appends_both, appends_prefix}
-use Rattle.standby_model.specs.Scan.{Reply, Answers, text_of}
-use Rattle.standby_model.proofs.Replies.{one_answer_holds}
+use Rattle.scan_model.specs.Scan.{Reply, Answers, text_of}
+use Rattle.scan_model.proofs.Replies.{one_answer_holds}
 
 -- a count that rose over a part of a run rose over the run
 pub rose_over : (before between now : ℕ) → before ≤ between → Rose between now → Rose before now
@@ -26,36 +27,42 @@ line_after trouble worse before between now x fault_line f p (inl q) = inl (appe
 line_after trouble worse before between now x fault_line f p (inr (t, q)) =
     inr (f t, appends_prefix before between now x fault_line p q)
 
--- a prefix of the text, and then the line of the fault
+-- whole lines of the text, and then the line of the fault
 pub cut_off :
     (trouble worse : Type 0) (before between now : Option (List ℕ)) (text fault_line : List ℕ) → (trouble → worse)
-    → AppendsPrefix before between text → AppendsUnless trouble between now fault_line
-    → CutsOff worse before now text fault_line
-cut_off trouble worse None between now text fault_line f p q = (0, inl tt)
-cut_off trouble worse (Some a) between now text fault_line f (n, e) q =
-    (n, line_after trouble worse (Some a) between now (take n text) fault_line f e q)
+    → AppendsLines before between text → AppendsUnless trouble between now fault_line
+    → CutsOff worse before now fault_line (λ front. IsFront front text)
+cut_off trouble worse before between now text fault_line f (front, lines, is, p) q =
+    (front, lines, is, line_after trouble worse before between now front fault_line f p q)
 
 cut_off_any :
-    (trouble : Type 0) (before now : Option (List ℕ)) (words : List (List ℕ)) (file : List ℕ → Option (List ℕ)) (given : Reply)
-    (fault_line : List ℕ) → Answers words file given → CutsOff trouble before now (text_of given) fault_line
-    → (reply : Reply) → Answers words file reply → CutsOff trouble before now (text_of reply) fault_line
-cut_off_any trouble before now words file given fault_line a p reply b =
-    subst (λ (r : Reply). CutsOff trouble before now (text_of r) fault_line) (one_answer_holds words file given reply a b) p
+    (words : List (List ℕ)) (file : List ℕ → Option (List ℕ)) (given : Reply) (front : List ℕ) → Answers words file given
+    → IsFront front (text_of given) → (reply : Reply) → Answers words file reply → IsFront front (text_of reply)
+cut_off_any words file given front a is reply b =
+    subst (λ (r : Reply). IsFront front (text_of r)) (one_answer_holds words file given reply a b) is
+
+front_of :
+    (words : List (List ℕ)) (files : Option (List ℕ → Option (List ℕ))) (given : Reply) (front : List ℕ)
+    → IfSome files (λ fs. Answers words fs given) → IsFront front (text_of given) → IsFrontOfAnswer words files front
+front_of words None given front a is = tt
+front_of words (Some fs) given front a is = cut_off_any words fs given front a is
 
 -- what was cut off of the answer that was computed was cut off of any answer, since there is but one
 pub cut_off_answer :
     (trouble : Type 0) (before now : Option (List ℕ)) (words : List (List ℕ)) (files : Option (List ℕ → Option (List ℕ)))
     (given : Reply) (fault_line : List ℕ) → IfSome files (λ fs. Answers words fs given)
-    → CutsOff trouble before now (text_of given) fault_line
-    → IfSome files (λ fs. (reply : Reply) → Answers words fs reply → CutsOff trouble before now (text_of reply) fault_line)
-cut_off_answer trouble before now words None given fault_line a p = tt
-cut_off_answer trouble before now words (Some fs) given fault_line a p =
-    cut_off_any trouble before now words fs given fault_line a p
+    → CutsOff trouble before now fault_line (λ front. IsFront front (text_of given))
+    → CutsOff trouble before now fault_line (IsFrontOfAnswer words files)
+cut_off_answer trouble before now words files given fault_line a (front, lines, is, p) =
+    (front, lines, front_of words files given front a is, p)
+
+nothing_of_answer : (words : List (List ℕ)) (files : Option (List ℕ → Option (List ℕ))) → IsFrontOfAnswer words files []
+nothing_of_answer words None = tt
+nothing_of_answer words (Some fs) = λ reply a. (text_of reply, refl)
 
 -- a run that ended before its answer was known wrote the line alone
 pub cut_off_at_once :
     (trouble : Type 0) (before now : Option (List ℕ)) (words : List (List ℕ)) (files : Option (List ℕ → Option (List ℕ)))
     (fault_line : List ℕ) → AppendsUnless trouble before now fault_line
-    → IfSome files (λ fs. (reply : Reply) → Answers words fs reply → CutsOff trouble before now (text_of reply) fault_line)
-cut_off_at_once trouble before now words None fault_line p = tt
-cut_off_at_once trouble before now words (Some fs) fault_line p = λ reply a. (0, p)
+    → CutsOff trouble before now fault_line (IsFrontOfAnswer words files)
+cut_off_at_once trouble before now words files fault_line p = ([], inl refl, nothing_of_answer words files, p)

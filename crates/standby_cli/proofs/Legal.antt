@@ -1,15 +1,14 @@
 -- The answer over a legal log.
 use Rattle.std.proofs.Common.{ℕ, List, Option, Some, None, IfSome, subst}
-use Rattle.standby_model.specs.Scan.{Reply, Answers, AnswersWords}
+use Rattle.scan_model.specs.Scan.{Reply, Answers, AnswersWords}
 use Rattle.legal_scan.specs.Answer.{LegalScan, WhereLegal}
 
 where_legal :
     LegalScan → (words : List (List ℕ)) (files : List ℕ → Option (List ℕ)) (P : Reply → Type 0) (reply : Reply)
     → Answers words files reply → P reply → WhereLegal words files P
-where_legal law words files P reply answers holds = λ top log node why name table is named numbered. (
+where_legal law words files P reply answers holds = λ top name is named. (
   reply,
-  law top files log node why name table reply is numbered
-      (subst (λ (n : Option (List ℕ)). AnswersWords n files reply) named answers),
+  law top files name reply is (subst (λ (n : Option (List ℕ)). AnswersWords n files reply) named answers),
   holds,
 )
 

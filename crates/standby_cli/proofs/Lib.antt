@@ -4,3 +4,4 @@ pub mod Legal
 pub mod Opening
 pub mod Pages
 pub mod Replaying
+pub mod Words

@@ -20,8 +20,8 @@ use Rattle.xact_redo.specs.Sees.{sees}
 use Rattle.standby_core.specs.declared.types.NodeStatus.{NodeStatus}
 use Rattle.standby_core.specs.Standby.{Standby}
 use Rattle.standby_core.specs.View.{status_of}
-use Rattle.standby_model.specs.Scan.{AnswersOpening, AnswersRows, NotAdmitted, Scanned, is_admitted, is_ready, is_there, pages_from}
-use Rattle.standby_model.specs.Tables.{table_with}
+use Rattle.scan_model.specs.Scan.{AnswersOpening, AnswersRows, NotAdmitted, Scanned, is_admitted, is_ready, is_there, pages_from}
+use Rattle.scan_model.specs.Tables.{table_with}
 use Rattle.standby_cli.specs.Meaning.{page_in}
 use Rattle.standby_cli.specs.Replays.{bare}
 

@@ -1,11 +1,12 @@
 -- The text of a scan, block after block.
-use Rattle.std.proofs.Common.{◌≡◌, ℕ, suc, ◌+◌, ◌-◌, ◌<◌, ◌≤◌, Bool, true, false, nat_lt, List, [], ◌∷◌, ◌++◌, Option, inl, inr, refl, sym, ap, subst, ◌∙◌, arith, append_assoc, append-nil}
+use Rattle.std.proofs.Common.{◌≡◌, ℕ, suc, ◌+◌, ◌-◌, ◌<◌, ◌≤◌, Bool, true, false, nat_lt, List, [], ◌∷◌, ◌++◌, Option, Result, Err, flat_map, codes, decimal, inl, inr, refl, sym, ap, subst, ◌∙◌, arith, append_assoc, append-nil}
 use Rattle.std.specs.Prelude.{if◌then◌else◌}
-use Rattle.outside.specs.Sink.{Appends, AppendsPrefix}
+use Rattle.pg_types.specs.declared.fail.Fail.{Fail}
+use Rattle.outside.specs.Sink.{Appends}
 use Rattle.seq_scan.specs.BlockRows.{BlockEnd, BlockRows, Whole, ToastedAt, BadAt, UnknownAt, NoPage}
-use Rattle.standby_model.specs.Scan.{Reply, BadWords, LogRefused, NoTable, NotAdmitted, Scanned, is_whole, page_text, pages_from, pages_text, status_after, status_at, status_of}
-use Rattle.standby_cli.specs.Outcome.{IsReplied}
-use Rattle.standby_cli.proofs.Appending.{appends_both, appends_prefix, prefix_of_longer}
+use Rattle.scan_model.specs.Scan.{Reply, BadWords, LogRefused, NoTable, NotAdmitted, Scanned, column_name, end_line, is_whole, line, page_text, place_text, row_line, pages_from, pages_text, status_after, status_at, status_of}
+use Rattle.standby_cli.specs.Outcome.{AppendsLines, IsLines, IsReplied, WritesSome}
+use Rattle.standby_cli.proofs.Appending.{appends_both, appends_lines, lines_both, no_lines, writes_after, wrote_of_longer}
 
 -- the pages from this block on
 abbrev pub left_from : (ℕ → BlockRows) → ℕ → ℕ → List BlockRows
@@ -61,9 +62,28 @@ status_behind_whole : (first : BlockRows) (rest : List BlockRows) → is_whole f
 status_behind_whole first [] e = status_of_whole first.end e
 status_behind_whole first (next ∷ rest) e = refl
 
+-- the lines of a block are whole
+ends_in_line : (x text : List ℕ) → IsLines (x ++ line text)
+ends_in_line x text = inr (x ++ text, sym (append_assoc x text (10 ∷ [])))
+
+behind : (x : List ℕ) (table block : ℕ) (more : Bool) (end : BlockEnd) → IsLines (x ++ end_line table block more end)
+unfolding end_line
+behind x table block more Whole = ends_in_line x (if more then codes "more 1" else codes "end 1")
+behind x table block more (ToastedAt line_ column) =
+    ends_in_line x (codes "toasted 1 " ++ place_text block line_ ++ codes " " ++ column_name table column)
+behind x table block more (BadAt line_ column) =
+    ends_in_line x (codes "bad row 1 " ++ place_text block line_ ++ codes " " ++ column_name table column)
+behind x table block more (UnknownAt line_ id) =
+    ends_in_line x (codes "damaged 1 " ++ place_text block line_ ++ codes " multi " ++ decimal id)
+behind x table block more NoPage = ends_in_line x (codes "damaged 1 " ++ place_text block 0 ++ codes " page")
+
+page_is_lines : (table block : ℕ) (more : Bool) (page : BlockRows) → IsLines (page_text table block more page)
+page_is_lines table block more page = behind (flat_map row_line page.rows) table block more page.end
+
 -- where a scan stands before a block: it wrote some text, which with that of the blocks left is the whole
 pub record Written (before now : Option (List ℕ)) (page : ℕ → BlockRows) (table blocks block : ℕ) : Type 0 where
   pub text : List ℕ
+  pub lines : IsLines text
   pub appends : Appends before now text
   pub whole : text ++ pages_text table blocks block (left_from page blocks block) ≡ pages_text table blocks 0 (pages_from page 0 blocks)
   pub status : status_after (left_from page blocks block) ≡ status_after (pages_from page 0 blocks)
@@ -73,6 +93,7 @@ at_first before page table blocks none =
     let all : blocks - 0 ≡ blocks = omega arith in
     record {
       text = [];
+      lines = inl refl;
       appends = none;
       whole = ap (λ (n : ℕ). pages_text table blocks 0 (pages_from page 0 n)) all;
       status = ap (λ (n : ℕ). status_after (pages_from page 0 n)) all;
@@ -94,6 +115,7 @@ wrote_whole before between now page table blocks block less whole w p =
     let here = page_text table block (nat_lt (block + 1) blocks) (page block) in
     let e = goes_on page blocks block less whole in record {
       text = w.text ++ here;
+      lines = lines_both w.text here w.lines (page_is_lines table block (nat_lt (block + 1) blocks) (page block));
       appends = appends_both before between now w.text here w.appends p;
       whole = append_assoc w.text here (pages_text table blocks (block + 1) (left_from page blocks (block + 1)))
           ∙ ap (λ (t : List ℕ). w.text ++ t) (sym (text_here page table blocks block (left_from page blocks (block + 1)) e)) ∙ w.whole;
@@ -129,29 +151,31 @@ wrote_all before now page table blocks block le w =
       sym (ap (λ (pages : List BlockRows). status_after pages) e) ∙ w.status,
     )
 
--- a prefix of a block's text was written
+-- a call that did not succeed wrote some of a block's text
 pub wrote_some :
-    (before between now : Option (List ℕ)) (page : ℕ → BlockRows) (table blocks block : ℕ) → block < blocks
+    {T : Type 0} (before between now : Option (List ℕ)) (page : ℕ → BlockRows) (table blocks block : ℕ) (fail : Fail) → block < blocks
     → Written before between page table blocks block
-    → AppendsPrefix between now (page_text table block (nat_lt (block + 1) blocks) (page block))
-    → AppendsPrefix before now (pages_text table blocks 0 (pages_from page 0 blocks))
-wrote_some before between now page table blocks block less w p =
+    → (let r : Result T Fail = Err fail in WritesSome between now (page_text table block (nat_lt (block + 1) blocks) (page block)) r)
+    → (let r : Result T Fail = Err fail in WritesSome before now (pages_text table blocks 0 (pages_from page 0 blocks)) r)
+wrote_some {T = T} before between now page table blocks block fail less w p =
     let here = page_text table block (nat_lt (block + 1) blocks) (page block) in
     let rest = if is_whole (page block).end then pages_from page (block + 1) (blocks - (block + 1)) else [] in
     let e : left_from page blocks block ≡ page block ∷ rest = one_more page blocks block (blocks - (block + 1)) (omega arith) in
-    let longer = prefix_of_longer between now here (pages_text table blocks (block + 1) rest) p in
+    let more = pages_text table blocks (block + 1) rest in
+    let longer = wrote_of_longer {T = T} between now here more fail p in
     let same = sym (text_here page table blocks block rest e) in
-    subst (λ (t : List ℕ). AppendsPrefix before now t) (ap (λ (t : List ℕ). w.text ++ t) same ∙ w.whole)
-    (appends_prefix before between now w.text (here ++ pages_text table blocks (block + 1) rest) w.appends longer)
+    let r : Result T Fail = Err fail in
+    subst (λ (t : List ℕ). WritesSome before now t r) (ap (λ (t : List ℕ). w.text ++ t) same ∙ w.whole)
+    (writes_after before between now w.text (here ++ more) r w.lines w.appends longer)
 
 -- nothing more was written
 pub wrote_front :
     (before now : Option (List ℕ)) (page : ℕ → BlockRows) (table blocks block : ℕ) → Written before now page table blocks block
-    → AppendsPrefix now now [] → AppendsPrefix before now (pages_text table blocks 0 (pages_from page 0 blocks))
-wrote_front before now page table blocks block w none =
+    → AppendsLines before now (pages_text table blocks 0 (pages_from page 0 blocks))
+wrote_front before now page table blocks block w =
     let rest = pages_text table blocks block (left_from page blocks block) in
-    subst (λ (t : List ℕ). AppendsPrefix before now t) w.whole
-    (appends_prefix before now now w.text rest w.appends (prefix_of_longer now now [] rest none))
+    subst (λ (t : List ℕ). AppendsLines before now t) w.whole
+    (appends_lines before now now w.text rest w.lines w.appends (no_lines now rest))
 
 -- the status of an answer is no fault's
 replied_at : (end : BlockEnd) → IsReplied (status_at end)
@@ -183,3 +207,23 @@ no_fault status n (inr (inr (inr e))) f less = omega arith
 pub status_of_none : (at table blocks : ℕ) (page : ℕ → BlockRows) → blocks ≡ 0 → status_of (Scanned at table blocks (pages_from page 0 blocks)) ≡ 0
 unfolding pages_from
 status_of_none at table blocks page e = ap (λ (n : ℕ). status_after (pages_from page 0 n)) e
+
+-- only words that are not understood have the status 2
+two_at : (end : BlockEnd) → status_at end ≡ 2 → ⊥
+two_at Whole e = omega (arith, e)
+two_at (ToastedAt line column) e = omega (arith, e)
+two_at (BadAt line column) e = omega (arith, e)
+two_at (UnknownAt line id) e = omega (arith, e)
+two_at NoPage e = omega (arith, e)
+
+two_after : (pages : List BlockRows) → status_after pages ≡ 2 → ⊥
+two_after [] e = omega (arith, e)
+two_after (page ∷ []) e = two_at page.end e
+two_after (page ∷ next ∷ pages) e = two_after (next ∷ pages) e
+
+pub two_is : (reply : Reply) → status_of reply ≡ 2 → reply ≡ BadWords
+two_is BadWords e = refl
+two_is (LogRefused at what) e = absurd (omega (arith, e))
+two_is NoTable e = absurd (omega (arith, e))
+two_is (NotAdmitted min at awaited state) e = absurd (omega (arith, e))
+two_is (Scanned at table blocks pages) e = absurd (two_after pages e)

@@ -1,49 +1,32 @@
 -- Replay of a log, record by record, against the log's definition.
-use Rattle.std.proofs.Common.{◌≡◌, ℕ, ◌<◌, List, [], ◌∷◌, Option, Some, None, Result, Ok, Err, refl, sym, ap, subst, ◌∙◌, ◌≤◌, ◌+◌, ◌^◌, lit≤}
+use Rattle.std.proofs.Common.{◌≡◌, ℕ, Bool, true, false, List, [], ◌∷◌, Option, Some, None, IfSome, Result, Ok, Err, refl, sym, ap, subst, ◌∙◌, ◌≤◌, ◌+◌, ◌^◌, lit≤}
 use Rattle.std.proofs.Math.Path.{fun_ext}
 use Rattle.pg_types.specs.declared.names.Lsn.{Lsn}
 use Rattle.pg_types.specs.declared.names.Locator.{Locator}
+use Rattle.wal_record.specs.declared.types.PrevRule.{PrevRule}
 use Rattle.wal_bodies.specs.declared.types.Rec.{Rec}
 use Rattle.wal_reader.specs.declared.types.EndWhy.{EndWhy}
-use Rattle.wal_reader.specs.declared.types.Stop.{Stop as ReadStop}
 use Rattle.wal_reader.specs.Kept.{AreTold}
-use Rattle.wal_reader.specs.Step.{Entry, step}
 use Rattle.wal_reader.specs.Told.{Told, told_bytes}
+use Rattle.wal_archive.specs.ArchiveLog.{archived_byte, archived_bytes}
 use Rattle.heap_redo.specs.Redone.{View, absent, redone, seen, view_of}
 use Rattle.heap_redo.specs.declared.fault.RedoFault.{RedoFault}
-use Rattle.wal_bodies.specs.declared.types.BodyFault.{BodyFault}
 use Rattle.page_store.specs.Content.{Blocks}
 use Rattle.standby_core.specs.declared.types.Refusal.{Refusal}
 use Rattle.standby_core.specs.declared.types.Replayed.TheVariants.{Applied, AtEnd, Refused as IsRefused_}
-use Rattle.standby_core.specs.Replay.{IsApplied, IsDue, IsRefusedAs, by_blocks, by_body, by_form, StaysUnlessApplied, typed_at}
-use Rattle.standby_core.specs.Standby.{Standby, at_origin, told_to}
+use Rattle.standby_core.specs.Replay.{IsApplied, IsRefusedAs, by_blocks, by_record, StaysUnlessApplied, redo_refusal, refusal_of}
+use Rattle.standby_core.specs.Standby.{Standby, at_origin, described_to, told_to}
 use Rattle.standby_core.specs.declared.node.Node.{Node}
 use Rattle.standby_core.specs.View.{ReplaysTold, standby}
 use Rattle.standby_model.specs.Archived.{segment_size}
-use Rattle.standby_model.specs.Log.{Goes, IsLog, IsRefused, IsRefusedBlock, IsRefusedBody, Leads, Ended, Refused, applied, found_at, start}
-use Rattle.standby_model.specs.Tables.{database, known}
+use Rattle.standby_model.specs.Log.{Described, Stop, Ended, Refused, end_of, next_of, record_at}
+use Rattle.scan_model.specs.Run.{origin, redone_at, redone_on, replayed, start}
+use Rattle.scan_model.specs.Scan.{AnswersBlocks, AnswersLog, AnswersNext, AnswersOpening, AnswersTable, BadWords, LogRefused, Reply, is_admitted}
+use Rattle.scan_model.specs.Tables.{database, described, known, number_of}
+use Rattle.scan_model.proofs.Runs.{IsSetUp, redone_is, refused_is, set_up}
+use Rattle.standby_cli.specs.declared.replay.Replay.{Replay}
 use Rattle.standby_cli.specs.declared.replay.Replay.TheVariants as replay
-use Rattle.standby_cli.specs.Replays.{IsReplayed, StandsIn, bare, told}
-
--- what a standby is set up for stays along its log
-pub record IsSetUp (node : Standby) : Type 0 where
-  pub database_is : node.database ≡ database
-  pub known_is : node.known ≡ known
-  pub system_is : node.system ≡ 7
-  pub segsize_is : node.segsize ≡ segment_size
-
-set_up_moved : (node next : Standby) (rec : Rec) (blocks : View) → IsSetUp node → next ≡ applied rec blocks node → IsSetUp next
-set_up_moved node next rec blocks is e =
-    subst (λ (n : Standby). IsSetUp n) (sym e)
-    (record { database_is = is.database_is; known_is = is.known_is; system_is = is.system_is; segsize_is = is.segsize_is })
-
-pub set_up : (log_told : Told) (log : List Rec) (node : Standby) → Leads log_told log node → IsSetUp node
-unfolding at_origin
-set_up log_told [] node e =
-    subst (λ (n : Standby). IsSetUp n) (sym e)
-    (record { database_is = refl; known_is = refl; system_is = refl; segsize_is = refl })
-set_up log_told (rec ∷ older) node (was, leads, goes, onward) =
-    set_up_moved was node rec goes.blocks (set_up log_told older was leads) goes.leads
+use Rattle.standby_cli.specs.Replays.{AnswersReplay, HasReplayed, IsReplayed, StandsIn, bare, told}
 
 -- the log as the node is told it
 told_is : (byte : ℕ → Option ℕ) (node : Standby) → node.system ≡ 7 → node.segsize ≡ segment_size → told_to node byte ≡ told byte
@@ -51,10 +34,17 @@ told_is byte node e f =
     let made : ℕ → ℕ → Told = λ system segsize. record { byte = byte; owner = λ at. 1; system = system; segsize = segsize } in
     ap (λ (s : ℕ). made s node.segsize) e ∙ ap (λ (z : ℕ). made 7 z) f
 
+-- what stands at the node's position is what follows the log
 found_is :
-    (byte : ℕ → Option ℕ) (node : Standby) → IsSetUp (bare node)
-    → step (told_to node byte) node.at.0 node.prev ≡ found_at (told byte) (bare node)
-found_is byte node is = ap (λ (t : Told). step t node.at.0 node.prev) (told_is byte node is.system_is is.segsize_is)
+    (byte : ℕ → Option ℕ) (log : List Rec) (node : Standby) → IsSetUp log (bare node)
+    → record_at (told_to node byte) (described_to node) node.at.0 node.prev ≡ next_of (told byte) described origin.redo.0 log
+found_is byte log node is =
+    let made : ℕ → List Locator → Described = λ database files. record { database = database; files = files } in
+    ap (λ (t : Told). record_at t (described_to node) node.at.0 node.prev) (told_is byte node is.system_is is.segsize_is)
+    ∙ ap (λ (d : ℕ). record_at (told byte) (made d node.known) node.at.0 node.prev) is.database_is
+    ∙ ap (λ (files : List Locator). record_at (told byte) (made database files) node.at.0 node.prev) is.known_is
+    ∙ ap (λ (at : ℕ). record_at (told byte) described at node.prev) is.at_is
+    ∙ ap (λ (link : PrevRule). record_at (told byte) described (end_of origin.redo.0 log) link) is.prev_is
 
 -- the redo of a record over the files that are known
 redone_known :
@@ -62,34 +52,34 @@ redone_known :
     → redone rec node.known rec.blocks node.blocks ≡ (blocks, answer) → redone rec known rec.blocks node.blocks ≡ (blocks, answer)
 redone_known rec node blocks answer e f = subst (λ (k : List Locator). redone rec k rec.blocks node.blocks ≡ (blocks, answer)) e f
 
--- a record that was applied goes on with the log
-goes_by :
-    (byte : ℕ → Option ℕ) (old new : Standby) (rec : Rec) (found : Result Entry ReadStop) → IsSetUp (bare old)
-    → found ≡ found_at (told byte) (bare old) → IsDue old found rec → IsApplied rec old new
-    → Goes (bare old) (found_at (told byte) (bare old)) rec (bare new)
-goes_by byte old new rec found is e due done = record {
-  entry = due.entry;
-  stands = sym e ∙ due.stands;
-  is_typed = due.is_typed;
-  blocks = new.blocks;
-  is_redone = redone_known rec old new.blocks (Ok tt) is.known_is done.blocks;
-  leads = ap bare done.others;
-}
-
-ends_at : (rec : Rec) (old new : Standby) (at : Lsn) → IsApplied rec old new → rec.end ≡ at → new.at ≡ rec.end
-ends_at rec old new at done e = ap (λ (n : Standby). n.at) done.others
+-- a record that was applied was replayed
+replayed_on :
+    (log : List Rec) (old new : Standby) (rec : Rec) → IsSetUp log (bare old) → replayed log ≡ Ok (bare old) → IsApplied rec old new
+    → replayed (rec ∷ log) ≡ Ok (bare new)
+replayed_on log old new rec is led done =
+    ap (λ (r : Result Standby RedoFault). redone_on rec r) led
+    ∙ redone_is rec (bare old) new.blocks (redone_known rec old new.blocks (Ok tt) is.known_is done.blocks)
+    ∙ ap (λ (n : Standby). ok n) (sym (ap bare done.others))
+  where
+    ok : Standby → Result Standby RedoFault
+    ok n = Ok n
 
 -- one more record was replayed
 pub leads_on :
     (byte : ℕ → Option ℕ) (old new : Standby) (start_ at : Lsn) (cancelled : ℕ) → StandsIn (Some byte) old
-    → ReplaysTold (Some byte) (Ok (Applied start_ at cancelled)) old new → (old.at.0 < new.at.0)
-    → StandsIn (Some byte) new
-leads_on byte old new start_ at cancelled (kept, (log, leads)) replays onward =
-    let is = set_up (told byte) log (bare old) leads in
-    let (later, (rec, due, done, s, e, n)) = replays kept in
-    let goes = goes_by byte old new rec (step (told_to old byte) old.at.0 old.prev) is (found_is byte old is) due done in
-    let moves : old.at.0 < rec.end.0 = subst (λ (a : Lsn). old.at.0 < a.0) (ends_at rec old new at done e) onward in
-    (later, (rec ∷ log, (bare old, leads, goes, moves)))
+    → ReplaysTold (Some byte) (Ok (Applied start_ at cancelled)) old new → StandsIn (Some byte) new
+leads_on byte old new start_ at cancelled (kept, (log, has)) replays =
+    let is = set_up log (bare old) has.is_replayed in
+    let (later, (rec, due, done, s, e, n)) = replays kept in (
+      later,
+      (
+        rec ∷ log,
+        record {
+          stands = (sym (found_is byte log old is) ∙ due, has.stands);
+          is_replayed = replayed_on log old new rec is has.is_replayed done;
+        },
+      ),
+    )
 
 -- where no record was applied, all but the blocks and what is kept is as before
 bare_blocks : (old new : Standby) → new ≡ record old { blocks = new.blocks; kept = new.kept } → new.blocks ≡ old.blocks → bare new ≡ bare old
@@ -100,62 +90,53 @@ pub log_ended :
     (byte : ℕ → Option ℕ) (old new : Standby) (lsn : Lsn) (why : EndWhy) → StandsIn (Some byte) old
     → ReplaysTold (Some byte) (Ok (AtEnd lsn why)) old new
     → StaysUnlessApplied (Ok (AtEnd lsn why)) old new
-    → (log : List Rec) × IsLog (told byte) log (bare new) (Ended why)
-log_ended byte old new lsn why (kept, (log, leads)) replays stays =
-    let is = set_up (told byte) log (bare old) leads in
+    → (log : List Rec) × HasReplayed byte log (bare new) × (next_of (told byte) described origin.redo.0 log ≡ Err (Ended why))
+log_ended byte old new lsn why (kept, (log, has)) replays stays =
+    let is = set_up log (bare old) has.is_replayed in
     let (later, (e, l, b)) = replays kept in (
       log,
-      subst (λ (n : Standby). IsLog (told byte) log n (Ended why)) (sym (bare_blocks old new stays b))
-          (record { leads = leads; stops = sym (found_is byte old is) ∙ e }),
+      subst (λ (n : Standby). HasReplayed byte log n) (sym (bare_blocks old new stays b)) has,
+      sym (found_is byte log old is) ∙ e,
     )
 
 -- a record was refused
+refused_next :
+    (name : List ℕ) (node : Standby) (found given : Result Rec Stop) (reply : Reply) → found ≡ given → AnswersNext name node given reply
+    → AnswersNext name node found reply
+refused_next name node found given reply e h = subst (λ (f : Result Rec Stop). AnswersNext name node f reply) (sym e) h
+
 refused_block :
-    (rec : Rec) (node : Standby) (blocks : View) (fault : RedoFault) (what : Refusal) → node.known ≡ known
-    → redone rec node.known rec.blocks node.blocks ≡ (blocks, Err fault) → IsRefusedBlock (Err fault) what
-    → IsRefusedBlock (redone rec known rec.blocks node.blocks).1 what
-refused_block rec node blocks fault what e f h =
-    subst (λ (o : View × Result (Unit {0}) RedoFault). IsRefusedBlock o.1 what) (sym (redone_known rec node blocks (Err fault) e f)) h
-
-refused_body :
-    (node : Standby) (found : Result Rec BodyFault) (body : Result Rec BodyFault) (what : Refusal) → found ≡ body
-    → IsRefusedBody node body what → IsRefusedBody node found what
-refused_body node found body what e h = subst (λ (b : Result Rec BodyFault). IsRefusedBody node b what) (sym e) h
-
-refused_found :
-    (node : Standby) (found given : Result Entry ReadStop) (what : Refusal) → found ≡ given → IsRefused node given what
-    → IsRefused node found what
-refused_found node found given what e h = subst (λ (f : Result Entry ReadStop). IsRefused node f what) (sym e) h
+    (node : Standby) (outcome : Result Standby RedoFault) (fault : RedoFault) (what : Refusal) (reply : Reply) → outcome ≡ Err fault
+    → redo_refusal fault ≡ Some what → reply ≡ LogRefused node.at.0 what → AnswersBlocks node outcome reply
+refused_block node outcome fault what reply e f g =
+    subst (λ (o : Result Standby RedoFault). AnswersBlocks node o reply) (sym e) (what, f, g)
 
 refused_as :
-    (old new : Standby) (found : Result Entry ReadStop) (what : Refusal) → old.known ≡ known → IsRefusedAs old new found what
-    → IsRefused (bare old) found what
-refused_as old new found what is (by_form why e f same) = refused_found (bare old) found (Err why) what e f
-refused_as old new found what is (by_body entry fault e f g same) =
-    refused_found (bare old) found (Ok entry) what e (refused_body (bare old) (typed_at old entry) (Err fault) what f g)
-refused_as old new found what is (by_blocks rec fault due f g) =
-    refused_found (bare old) found (Ok due.entry) what due.stands
-    (refused_body (bare old) (typed_at old due.entry) (Ok rec) what due.is_typed (refused_block rec old new.blocks fault what is f g))
+    (name : List ℕ) (old new : Standby) (found : Result Rec Stop) (lsn : Lsn) (what : Refusal) → old.known ≡ known
+    → IsRefusedAs old new found what → lsn ≡ old.at → AnswersNext name (bare old) found (LogRefused lsn.0 what)
+refused_as name old new found lsn what is (by_record why e f same) here =
+    refused_next name (bare old) found (Err (Refused why)) (LogRefused lsn.0 what) e
+    (ap (λ (w : Refusal). LogRefused lsn.0 w) (sym f) ∙ ap (λ (l : Lsn). LogRefused l.0 (refusal_of why)) here)
+refused_as name old new found lsn what is (by_blocks rec fault e f g) here =
+    refused_next name (bare old) found (Ok rec) (LogRefused lsn.0 what) e
+    (refused_block (bare old) (redone_at rec (bare old)) fault what (LogRefused lsn.0 what)
+    (refused_is rec (bare old) new.blocks fault (redone_known rec old new.blocks (Err fault) is f)) g
+    (ap (λ (l : Lsn). LogRefused l.0 what) here))
 
 pub log_refused :
     (byte : ℕ → Option ℕ) (old new : Standby) (lsn : Lsn) (what : Refusal) → StandsIn (Some byte) old
     → ReplaysTold (Some byte) (Ok (IsRefused_ lsn what)) old new
-    → (log : List Rec) × ((node : Standby) × (IsLog (told byte) log node (Refused what) × (node.at ≡ lsn)))
-log_refused byte old new lsn what (kept, (log, leads)) replays =
-    let is = set_up (told byte) log (bare old) leads in
+    → (log : List Rec) × (node : Standby) × HasReplayed byte log node
+    × ((name : List ℕ) → AnswersNext name node (next_of (told byte) described origin.redo.0 log) (LogRefused lsn.0 what))
+log_refused byte old new lsn what (kept, (log, has)) replays =
+    let is = set_up log (bare old) has.is_replayed in
     let (later, (refused, e)) = replays kept in
-    let found = step (told_to old byte) old.at.0 old.prev in (
+    let found = record_at (told_to old byte) (described_to old) old.at.0 old.prev in (
       log,
-      (
-        bare old,
-        (
-          record {
-            leads = leads;
-            stops = subst (λ (f : Result Entry ReadStop). IsRefused (bare old) f what) (found_is byte old is) (refused_as old new found what is.known_is refused);
-          },
-          sym e,
-        ),
-      ),
+      bare old,
+      has,
+      λ name. refused_next name (bare old) (next_of (told byte) described origin.redo.0 log) found (LogRefused lsn.0 what)
+          (sym (found_is byte log old is)) (refused_as name old new found lsn what is.known_is refused e),
     )
 
 -- a pool without blocks
@@ -175,7 +156,8 @@ nothing_kept byte = refl
 
 first_of : (byte : ℕ → Option ℕ) (node : Standby) → node ≡ start → StandsIn (Some byte) node
 unfolding at_origin
-first_of byte node e = subst (λ (n : Standby). StandsIn (Some byte) n) (sym e) (nothing_kept byte, ([], refl))
+first_of byte node e =
+    subst (λ (n : Standby). StandsIn (Some byte) n) (sym e) (nothing_kept byte, ([], record { stands = tt; is_replayed = refl }))
 
 pub stands_first : (bytes : Option (ℕ → Option ℕ)) (node : Standby) → node ≡ start → StandsIn bytes node
 stands_first None node e = tt
@@ -183,11 +165,11 @@ stands_first (Some byte) node e = first_of byte node e
 
 pub led_on :
     (given bytes : Option (ℕ → Option ℕ)) (old new : Standby) (start_ at : Lsn) (cancelled : ℕ) → given ≡ bytes → StandsIn bytes old
-    → ReplaysTold given (Ok (Applied start_ at cancelled)) old new → (old.at.0 < new.at.0) → StandsIn bytes new
-led_on given None old new start_ at cancelled e stands replays onward = tt
-led_on given (Some byte) old new start_ at cancelled e stands replays onward =
+    → ReplaysTold given (Ok (Applied start_ at cancelled)) old new → StandsIn bytes new
+led_on given None old new start_ at cancelled e stands replays = tt
+led_on given (Some byte) old new start_ at cancelled e stands replays =
     leads_on byte old new start_ at cancelled stands
-    (subst (λ (b : Option (ℕ → Option ℕ)). ReplaysTold b (Ok (Applied start_ at cancelled)) old new) e replays) onward
+    (subst (λ (b : Option (ℕ → Option ℕ)). ReplaysTold b (Ok (Applied start_ at cancelled)) old new) e replays)
 
 pub ended_in :
     (given bytes : Option (ℕ → Option ℕ)) (old new : Node) (lsn : Lsn) (why : EndWhy) → given ≡ bytes → StandsIn bytes (standby old)
@@ -206,3 +188,40 @@ refused_in given None old new lsn what e stands replays = tt
 refused_in given (Some byte) old new lsn what e stands replays =
     log_refused byte old new lsn what stands
     (subst (λ (b : Option (ℕ → Option ℕ)). ReplaysTold b (Ok (IsRefused_ lsn what)) old new) e replays)
+
+-- what replay left decides the answer
+pub answers_log :
+    (name : List ℕ) (files : Option (List ℕ → Option (List ℕ))) (left : Replay) (reply : Reply)
+    → IsReplayed (archived_bytes files segment_size) left → AnswersReplay name left reply
+    → IfSome files (λ fs. AnswersLog name fs reply)
+answers_log name None left reply is says = tt
+answers_log name (Some fs) (replay.Ended node why) reply (log, has, next) says = record {
+  log = log;
+  stands = has.stands;
+  node = bare (standby node);
+  is_replayed = has.is_replayed;
+  says = refused_next name (bare (standby node)) (next_of (told (archived_byte fs segment_size)) described origin.redo.0 log)
+      (Err (Ended why)) reply next says;
+}
+answers_log name (Some fs) (replay.Refused at what) reply (log, node, has, next) says = record {
+  log = log;
+  stands = has.stands;
+  node = node;
+  is_replayed = has.is_replayed;
+  says = subst (λ (r : Reply). AnswersNext name node (next_of (told (archived_byte fs segment_size)) described origin.redo.0 log) r)
+      (sym says) (next name);
+}
+
+-- and it is none to words that are not understood
+opening_understood :
+    (node : Standby) (table : ℕ) (admitted : Bool) (reply : Reply) → AnswersOpening node table admitted reply → reply ≡ BadWords → ⊥
+opening_understood node table true reply says e = let s = says.says in cc
+opening_understood node table false reply says e = cc
+
+table_understood : (node : Standby) (number : Option ℕ) (reply : Reply) → AnswersTable node number reply → reply ≡ BadWords → ⊥
+table_understood node None reply says e = cc
+table_understood node (Some table) reply says e = opening_understood node table (is_admitted node) reply says e
+
+pub understood : (name : List ℕ) (left : Replay) (reply : Reply) → AnswersReplay name left reply → reply ≡ BadWords → ⊥
+understood name (replay.Ended node why) reply says e = table_understood (bare (standby node)) (number_of name) reply says e
+understood name (replay.Refused at what) reply says e = cc

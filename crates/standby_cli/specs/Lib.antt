@@ -1,3 +1,4 @@
+pub mod Front
 pub mod Meaning
 pub mod Outcome
 pub mod Replays

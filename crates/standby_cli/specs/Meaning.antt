@@ -10,8 +10,8 @@ use Rattle.standby_snapshot.specs.Snapshot.{SnapshotData, in_numbers, no_parents
 use Rattle.tuple_visibility.specs.Visible.{visible_of}
 use Rattle.seq_scan.specs.BlockRows.{BlockRows, block_rows}
 use Rattle.xact_redo.specs.Sees.{no_multixacts}
-use Rattle.standby_model.specs.Scan as scan
-use Rattle.standby_model.specs.Tables.{table_with}
+use Rattle.scan_model.specs.Scan as scan
+use Rattle.scan_model.specs.Tables.{table_with}
 use Rattle.standby_cli.specs.declared.reply.Reply.{Reply}
 use Rattle.standby_cli.specs.declared.reply.Reply.TheVariants as reply
 use Rattle.standby_cli.specs.declared.reply.Scan.{Scan}

@@ -1,7 +1,9 @@
 -- What a run leaves: its exit status, and what it wrote.
-use Rattle.std.specs.Prelude.{◌≡◌, ℕ, ◌⊎◌, List, ◌++◌, take, Option, Result, Ok, Err}
+use Rattle.std.specs.Prelude.{◌≡◌, ℕ, ◌⊎◌, List, [], ◌++◌, Option, Result, Ok, Err}
 use Rattle.pg_types.specs.declared.fail.Fail.{Fail}
+use Rattle.pg_types.specs.declared.fail.Fail.TheVariants.{Failed, Memory}
 use Rattle.outside.specs.Sink.{Appends, AppendsPrefix}
+use Rattle.scan_model.specs.Scan.{line}
 
 -- the exit statuses of faults: the archive's, the sink's, and want of memory
 abbrev pub archive_status : ℕ
@@ -21,15 +23,29 @@ IsReplied status = (status ≡ 0) ⊎ ((status ≡ 1) ⊎ ((status ≡ 2) ⊎ (s
 abbrev pub IsFault : ℕ → Type 0
 IsFault status = (status ≡ archive_status) ⊎ ((status ≡ sink_status) ⊎ (status ≡ memory_status))
 
--- the whole text was written, or where the call did not succeed a prefix of it
+-- a text is whole lines: it is empty, or ends with a line's end
+abbrev pub IsLines : List ℕ → Type 0
+IsLines text = (text ≡ []) ⊎ ((front : List ℕ) × (text ≡ line front))
+
+-- a text is the front of another
+abbrev pub IsFront : List ℕ → List ℕ → Type 0
+IsFront front text = (rest : List ℕ) × (text ≡ front ++ rest)
+
+-- whole lines from a text's front on were written
+abbrev pub AppendsLines : Option (List ℕ) → Option (List ℕ) → List ℕ → Type 0
+AppendsLines before now text = (front : List ℕ) × IsLines front × IsFront front text × Appends before now front
+
+-- what a call wrote of a text: all of it, or where the sink failed a prefix, or for want of memory whole lines
 abbrev pub WritesSome : {T : Type 0} → Option (List ℕ) → Option (List ℕ) → List ℕ → Result T Fail → Type 0
 WritesSome before now text (Ok x) = Appends before now text
-WritesSome before now text (Err fault) = AppendsPrefix before now text
+WritesSome before now text (Err Failed) = AppendsPrefix before now text
+WritesSome before now text (Err Memory) = AppendsLines before now text
 
 -- a text was written whole, or where the sink was in trouble a prefix of it
 abbrev pub AppendsUnless : Type 0 → Option (List ℕ) → Option (List ℕ) → List ℕ → Type 0
 AppendsUnless trouble before now text = (Appends before now text) ⊎ (trouble × AppendsPrefix before now text)
 
--- a front of a text was written, and then the line of a fault
-abbrev pub CutsOff : Type 0 → Option (List ℕ) → Option (List ℕ) → List ℕ → List ℕ → Type 0
-CutsOff trouble before now text fault_line = (count : ℕ) × AppendsUnless trouble before now (take count text ++ fault_line)
+-- whole lines were written, of which this holds, and then the line of a fault
+abbrev pub CutsOff : Type 0 → Option (List ℕ) → Option (List ℕ) → List ℕ → (List ℕ → Type 0) → Type 0
+CutsOff trouble before now fault_line P =
+    (front : List ℕ) × IsLines front × P front × AppendsUnless trouble before now (front ++ fault_line)

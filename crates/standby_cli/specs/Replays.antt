@@ -1,14 +1,15 @@
 -- What replay of the archive's log leaves.
-use Rattle.std.specs.Prelude.{◌≡◌, ℕ, List, [], Option, IfSome}
+use Rattle.std.specs.Prelude.{◌≡◌, ℕ, List, [], Option, IfSome, Ok, Err}
 use Rattle.wal_bodies.specs.declared.types.Rec.{Rec}
 use Rattle.wal_reader.specs.Kept.{AreTold}
 use Rattle.wal_reader.specs.Told.{Told}
 use Rattle.standby_core.specs.Standby.{Standby}
 use Rattle.standby_core.specs.View.{standby}
 use Rattle.standby_model.specs.Archived.{segment_size}
-use Rattle.standby_model.specs.Log.{IsLog, Leads, Ended, Refused}
-use Rattle.standby_model.specs.Scan.{AnswersStop, LogRefused, Reply}
-use Rattle.standby_model.specs.Tables.{known}
+use Rattle.standby_model.specs.Log.{Stands, Ended, next_of}
+use Rattle.scan_model.specs.Run.{origin, replayed}
+use Rattle.scan_model.specs.Scan.{AnswersNext, AnswersTable, LogRefused, Reply}
+use Rattle.scan_model.specs.Tables.{described, known, number_of}
 use Rattle.standby_cli.specs.declared.replay.Replay.{Replay}
 use Rattle.standby_cli.specs.declared.replay.Replay.TheVariants as replay
 
@@ -20,15 +21,23 @@ told byte = record { byte = byte; owner = λ at. 1; system = 7; segsize = segmen
 abbrev pub bare : Standby → Standby
 bare node = record node { kept = record { from = 0; bytes = [] } }
 
--- the standby stands where a log leads to, if the log's bytes are told
+-- a standby that replayed a log that stands
+pub record HasReplayed (byte : ℕ → Option ℕ) (log : List Rec) (node : Standby) : Type 0 where
+  pub stands : Stands (told byte) described origin.redo.0 log
+  pub is_replayed : replayed log ≡ Ok node
+
+-- the standby stands behind a log that it replayed, if the log's bytes are told
 abbrev pub StandsIn : Option (ℕ → Option ℕ) → Standby → Type 0
-StandsIn bytes node = IfSome bytes (λ byte. AreTold byte node.kept × ((log : List Rec) × Leads (told byte) log (bare node)))
+StandsIn bytes node = IfSome bytes (λ byte. AreTold byte node.kept × ((log : List Rec) × HasReplayed byte log (bare node)))
 
 -- the log was replayed to its end, or to a record that is refused
 abbrev pub IsReplayedOf : (ℕ → Option ℕ) → Replay → Type 0
-IsReplayedOf byte (replay.Ended node why) = (log : List Rec) × IsLog (told byte) log (bare (standby node)) (Ended why)
+IsReplayedOf byte (replay.Ended node why) =
+    (log : List Rec) × HasReplayed byte log (bare (standby node))
+    × (next_of (told byte) described origin.redo.0 log ≡ Err (Ended why))
 IsReplayedOf byte (replay.Refused at what) =
-    (log : List Rec) × ((node : Standby) × (IsLog (told byte) log node (Refused what) × (node.at ≡ at)))
+    (log : List Rec) × (node : Standby) × HasReplayed byte log node
+    × ((name : List ℕ) → AnswersNext name node (next_of (told byte) described origin.redo.0 log) (LogRefused at.0 what))
 
 abbrev pub IsReplayed : Option (ℕ → Option ℕ) → Replay → Type 0
 IsReplayed bytes replayed = IfSome bytes (λ byte. IsReplayedOf byte replayed)
@@ -40,5 +49,5 @@ HasTables (replay.Refused at what) = Unit {0}
 
 -- the answer where replay left this
 abbrev pub AnswersReplay : List ℕ → Replay → Reply → Type 0
-AnswersReplay name (replay.Ended node why) reply = AnswersStop name (bare (standby node)) (Ended why) reply
+AnswersReplay name (replay.Ended node why) reply = AnswersTable (bare (standby node)) (number_of name) reply
 AnswersReplay name (replay.Refused at what) reply = reply ≡ LogRefused at.0 what

@@ -1,8 +1,8 @@
-ghost use Rattle.std.specs.Prelude.{◌≡◌, IfOk, IfErr, IfSome, map, option_map, string_bytes};
+ghost use Rattle.std.specs.Prelude.{◌≡◌, ◌≢◌, Ok, None, IfOk, IfErr, IfSome, map, option_map, string_bytes};
 ghost use Rattle.outside.specs.Faults.{Rose};
 ghost use Rattle.wal_archive.specs.ArchiveLog.{archived_bytes};
 ghost use Rattle.standby_model.specs.Archived.{segment_size};
-ghost use Rattle.standby_model.specs.Scan.{Answers, AnswersLog, table_of};
+ghost use Rattle.scan_model.specs.Scan.{Answers, AnswersLog, BadWords, table_of};
 ghost use Rattle.standby_cli.specs.Meaning.{reply_meaning};
 ghost use Rattle.standby_cli.specs.Replays.{AnswersReplay, HasTables, IsReplayed};
 
@@ -21,6 +21,8 @@ use std::alloc::Global;
 pub fn answer<A: Archive>(alloc: Global, words: &[String], archive: &mut A) -> Result<Reply, Fail>
     ensures told { IfOk result (λ reply. IfSome (A.files archive.old) (λ files.
         Answers (map string_bytes words.now) files (reply_meaning reply))) }
+    ensures bad_words { IfOk result (λ reply. reply_meaning reply ≡ BadWords → table_of (map string_bytes words.now) ≡ None) }
+    ensures at_once { table_of (map string_bytes words.now) ≡ None → result ≡ Ok Reply.BadWords }
     ensures failed { result ≡ Err Fail.Failed → Rose (A.fault_count archive.old) (A.fault_count archive.new) }
 {
     match table_of(words) {
@@ -47,6 +49,7 @@ fn table_of(words: &[String]) -> Option<&str>
 fn answer_scan<A: Archive>(alloc: Global, name: &str, archive: &mut A) -> Result<Reply, Fail>
     ensures told { IfOk result (λ reply. IfSome (A.files archive.old) (λ files.
         AnswersLog name.now files (reply_meaning reply))) }
+    ensures understood { IfOk result (λ reply. reply_meaning reply ≢ BadWords) }
     ensures failed { result ≡ Err Fail.Failed → Rose (A.fault_count archive.old) (A.fault_count archive.new) }
 {
     match replay_log(alloc, archive) {
@@ -61,7 +64,8 @@ fn answer_scan<A: Archive>(alloc: Global, name: &str, archive: &mut A) -> Result
 /// The answer where replay left this.
 fn answer_replay(alloc: Global, name: &str, replayed: Replay) -> Result<Reply, NoMemory>
     requires { HasTables replayed }
-    ensures { IfOk result (λ reply. AnswersReplay name.now replayed (reply_meaning reply)) }
+    ensures answers { IfOk result (λ reply. AnswersReplay name.now replayed (reply_meaning reply)) }
+    ensures understood { IfOk result (λ reply. reply_meaning reply ≢ BadWords) }
 {
     match replayed {
         Replay::Refused { at, what } => Ok(Reply::LogRefused { at, what }),

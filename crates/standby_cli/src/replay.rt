@@ -3,7 +3,7 @@ ghost use Rattle.outside.specs.Faults.{Rose};
 ghost use Rattle.wal_archive.specs.ArchiveLog.{archived_bytes};
 ghost use Rattle.standby_core.specs.View.{standby};
 ghost use Rattle.standby_model.specs.Archived.{segment_size};
-ghost use Rattle.standby_model.specs.Log.{start};
+ghost use Rattle.scan_model.specs.Run.{start};
 ghost use Rattle.standby_cli.specs.Replays.{HasTables, IsReplayed};
 
 use crate::tables::{DATABASE, known_files};

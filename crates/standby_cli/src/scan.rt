@@ -1,8 +1,8 @@
 ghost use Rattle.std.specs.Prelude.{◌≡◌, ◌<◌, IfOk, Some};
 ghost use Rattle.standby_core.specs.Standby.{Standby};
 ghost use Rattle.standby_core.specs.View.{standby, status_of};
-ghost use Rattle.standby_model.specs.Scan.{AnswersTable, is_admitted};
-ghost use Rattle.standby_model.specs.Tables.{known};
+ghost use Rattle.scan_model.specs.Scan.{AnswersTable, is_admitted};
+ghost use Rattle.scan_model.specs.Tables.{known};
 ghost use Rattle.standby_cli.specs.Meaning.{reply_meaning};
 ghost use Rattle.standby_cli.specs.Replays.{bare};
 

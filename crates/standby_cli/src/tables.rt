@@ -1,6 +1,6 @@
 ghost use Rattle.std.specs.Prelude.{◌≡◌, IfOk, IfSome, ◌<◌};
-ghost use Rattle.standby_model.specs.Tables.{known, number_of, table_with};
-ghost use Rattle.standby_model.specs.Scan.{column_name};
+ghost use Rattle.scan_model.specs.Tables.{known, number_of, table_with};
+ghost use Rattle.scan_model.specs.Scan.{column_name};
 
 use heap_tuple::{Column, Kind};
 use pg_types::{Locator, NoMemory};

@@ -3,7 +3,7 @@ ghost use Rattle.std.specs.List.{flat_map};
 ghost use Rattle.std.specs.Fmt.{decimal};
 ghost use Rattle.pg_types.specs.Names.{lsn_text};
 ghost use Rattle.seq_scan.specs.Meaning.{end_of, meaning};
-ghost use Rattle.standby_model.specs.Scan.{LogRefused, NotAdmitted, backup_text, cell_text, column_name, end_line, escaped_byte, line, page_text, place_text, refusal_text, row_line, state_text, tabbed, text_of, values_text, what_text};
+ghost use Rattle.scan_model.specs.Scan.{LogRefused, NotAdmitted, backup_text, cell_text, column_name, end_line, escaped_byte, line, page_text, place_text, refusal_text, row_line, state_text, tabbed, text_of, values_text, what_text};
 
 use crate::tables::column_name;
 use heap_tuple::{Cell, Row};
@@ -15,7 +15,7 @@ use std::alloc::Global;
 use wal_bodies::What;
 
 /// The line of a record that is refused.
-#[tactic(auto, unfolding(standby_model::specs::Scan::text_of))]
+#[tactic(auto, unfolding(scan_model::specs::Scan::text_of))]
 pub fn refused_text(alloc: Global, at: Lsn, what: Refusal) -> Result<Vec<u8>, NoMemory>
     ensures { IfOk result (λ text. text.items ≡ text_of (LogRefused at.0 what)) }
 {
@@ -91,7 +91,7 @@ fn push_placed(
 }
 
 /// The line of a standby that does not admit scans.
-#[tactic(auto, unfolding(standby_model::specs::Scan::text_of))]
+#[tactic(auto, unfolding(scan_model::specs::Scan::text_of))]
 pub fn not_admitted_text(alloc: Global, status: &NodeStatus) -> Result<Vec<u8>, NoMemory>
     ensures { IfOk result (λ text. text.items ≡ text_of (NotAdmitted status.now.min.0 status.now.at.0 status.now.awaited status.now.state)) }
 {
@@ -154,7 +154,7 @@ pub fn page_text(
 }
 
 /// Appends how a block's rows end.
-#[tactic(auto, unfolding(standby_model::specs::Scan::end_line))]
+#[tactic(auto, unfolding(scan_model::specs::Scan::end_line))]
 fn push_end(
     alloc: Global,
     table: u16,
@@ -199,7 +199,7 @@ fn push_column(table: u16, column: u16, text: &mut Vec<u8>) -> Result<(), NoMemo
 }
 
 /// Appends a row's line.
-#[tactic(auto, unfolding(standby_model::specs::Scan::row_line))]
+#[tactic(auto, unfolding(scan_model::specs::Scan::row_line))]
 fn push_row(alloc: Global, row: &Row, text: &mut Vec<u8>) -> Result<(), NoMemory>
     ensures { OnOk result (text.new.items ≡ text.old.items ++ row_line row.now) }
 {
@@ -238,7 +238,7 @@ fn push_tabbed(alloc: Global, cell: &Cell, text: &mut Vec<u8>) -> Result<(), NoM
 }
 
 /// Appends a value.
-#[tactic(auto, unfolding(standby_model::specs::Scan::cell_text))]
+#[tactic(auto, unfolding(scan_model::specs::Scan::cell_text))]
 fn push_cell(alloc: Global, cell: &Cell, text: &mut Vec<u8>) -> Result<(), NoMemory>
     ensures { OnOk result (text.new.items ≡ text.old.items ++ cell_text cell.now) }
 {

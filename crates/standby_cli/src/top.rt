@@ -1,10 +1,11 @@
-ghost use Rattle.std.specs.Prelude.{◌≡◌, ◌≤◌, ◌⊎◌, ℕ, List, IfSome, IfOk, map, string_bytes, codes};
+ghost use Rattle.std.specs.Prelude.{◌≡◌, ◌≤◌, ◌⊎◌, ℕ, List, None, IfSome, IfOk, map, string_bytes, codes};
 ghost use Rattle.outside.specs.Faults.{Rose};
 ghost use Rattle.outside.specs.Sink.{Appends, AppendsPrefix};
 ghost use Rattle.legal_scan.specs.Answer.{WhereLegal};
-ghost use Rattle.standby_model.specs.Scan.{Reply as Said, Answers, status_of, text_of, line};
+ghost use Rattle.scan_model.specs.Scan.{Reply as Said, Answers, status_of, table_of, text_of, line};
 ghost use Rattle.standby_cli.specs.Meaning.{reply_meaning};
-ghost use Rattle.standby_cli.specs.Outcome.{IsReplied, IsFault, AppendsUnless, CutsOff};
+ghost use Rattle.standby_cli.specs.Outcome.{IsReplied, IsFault, IsFront, AppendsUnless, CutsOff};
+ghost use Rattle.standby_cli.specs.Front.{IsFrontOfAnswer};
 
 use crate::answer::answer;
 use crate::reply::Reply;
@@ -39,7 +40,8 @@ pub fn standby_main<A: Archive, O: Sink>(
         WhereLegal (map string_bytes words.now) files (λ reply. (result ≡ status_of reply)
         × (Appends (O.written out.old) (O.written out.new) (text_of reply)))) }
 
-    // A fault has its cause, and of the answer's text a prefix is written, and then the fault's line.
+    // A fault has its cause. Where the sink failed a prefix of the answer's text is written; else whole lines of it, and then
+    // the fault's line.
     ensures archive_failed { result ≡ 7 → Rose (A.fault_count archive.old) (A.fault_count archive.new) }
     ensures archive_line { result ≡ 7
         → AppendsUnless (Rose (O.fault_count out.old) (O.fault_count out.new) ⊎ Rose (O.short_count out.old) (O.short_count out.new))
@@ -48,10 +50,14 @@ pub fn standby_main<A: Archive, O: Sink>(
     ensures sink_text { result ≡ 9 → IfSome (A.files archive.old) (λ files. (reply : Said)
         × (Answers (map string_bytes words.now) files reply)
         × (AppendsPrefix (O.written out.old) (O.written out.new) (text_of reply))) }
-    ensures memory_line { result ≡ 12 → IfSome (A.files archive.old) (λ files. (reply : Said)
-        → Answers (map string_bytes words.now) files reply
+    ensures memory_line { result ≡ 12
         → CutsOff (Rose (O.fault_count out.old) (O.fault_count out.new) ⊎ Rose (O.short_count out.old) (O.short_count out.new))
-        (O.written out.old) (O.written out.new) (text_of reply) (line (codes "fault memory"))) }
+        (O.written out.old) (O.written out.new) (line (codes "fault memory")) (IsFrontOfAnswer (map string_bytes words.now) (A.files archive.old)) }
+
+    // Words that are not `scan` and a table are told so, whatever the archive holds.
+    ensures words { result ≡ 2 → (table_of (map string_bytes words.now) ≡ None)
+        × (Appends (O.written out.old) (O.written out.new) (line (codes "fault words"))) }
+    ensures other_words { table_of (map string_bytes words.now) ≡ None → (result ≡ 2) ⊎ ((result ≡ 9) ⊎ (result ≡ 12)) }
 {
     legal_scan();
     match answer(alloc, words, archive) {
@@ -70,7 +76,7 @@ fn finish<O: Sink>(alloc: Global, reply: Reply, out: &mut O) -> u8
     ensures sink_text { result ≡ 9 → AppendsPrefix (O.written out.old) (O.written out.new) (text_of (reply_meaning reply)) }
     ensures memory_line { result ≡ 12
         → CutsOff (Rose (O.fault_count out.old) (O.fault_count out.new) ⊎ Rose (O.short_count out.old) (O.short_count out.new))
-        (O.written out.old) (O.written out.new) (text_of (reply_meaning reply)) (line (codes "fault memory")) }
+        (O.written out.old) (O.written out.new) (line (codes "fault memory")) (λ front. IsFront front (text_of (reply_meaning reply))) }
 {
     match write_reply(alloc, reply, out) {
         Ok(status) => status,

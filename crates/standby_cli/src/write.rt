@@ -3,8 +3,8 @@ ghost use Rattle.commit_log.specs.Log.{status_of as transaction_status};
 ghost use Rattle.page_store.specs.Content.{content, table_count};
 ghost use Rattle.pg_types.specs.Names.{lsn_text};
 ghost use Rattle.standby_snapshot.specs.Snapshot.{in_numbers};
-ghost use Rattle.standby_model.specs.Scan.{LogRefused, NotAdmitted, is_whole, line, page_text, pages_from, pages_text, scan_text, status_after, status_at, status_of, text_of};
-ghost use Rattle.standby_model.specs.Tables.{table_with};
+ghost use Rattle.scan_model.specs.Scan.{LogRefused, NotAdmitted, is_whole, line, page_text, pages_from, pages_text, scan_text, status_after, status_at, status_of, text_of};
+ghost use Rattle.scan_model.specs.Tables.{table_with};
 ghost use Rattle.standby_cli.specs.Meaning.{page_in, reply_meaning, scan_meaning};
 ghost use Rattle.standby_cli.specs.Outcome.{WritesSome};
 ghost use Rattle.outside.specs.Faults.{HasCause};
@@ -23,7 +23,7 @@ use std::alloc::Global;
 use xact_redo::XactState;
 
 /// Writes an answer's text, and gives its exit status. For want of memory the text may be cut off after any of its pieces.
-#[tactic(auto, unfolding(standby_model::specs::Scan::text_of))]
+#[tactic(auto, unfolding(scan_model::specs::Scan::text_of))]
 pub fn write_reply<O: Sink>(alloc: Global, reply: Reply, out: &mut O) -> Result<u8, Fail>
     ensures told { WritesSome (O.written out.old) (O.written out.new) (text_of (reply_meaning reply)) result }
     ensures status { IfOk result (λ status. status ≡ status_of (reply_meaning reply)) }

@@ -31,9 +31,11 @@ use Rattle.standby_core.specs.declared.types.NodeFault.TheVariants.{Archive, Mem
 use Rattle.standby_core.specs.declared.types.Replayed.{Replayed}
 use Rattle.standby_core.specs.declared.types.Replayed.TheVariants.{Applied, AtEnd, Refused}
 use Rattle.standby_core.specs.declared.types.Refusal.{Refusal as What}
-use Rattle.standby_core.specs.Standby.{Standby, told_to}
-use Rattle.standby_core.specs.Replay.{IsDue, IsRefusedAs, by_blocks, by_body, by_form, Replays, ReplaysSome, body_refusal, redo_refusal}
-use Rattle.standby_core.specs.Steps.{GivenReplays, Gives, RecReplays, TypedForm, refusing, unread}
+use Rattle.standby_model.specs.Log as log
+use Rattle.standby_model.specs.Log.{Stop as LogStop, record_at, stop_by, typed_of, unless_refused}
+use Rattle.standby_core.specs.Standby.{Standby, described_to, told_to}
+use Rattle.standby_core.specs.Replay.{IsRefusedAs, by_blocks, by_record, Replays, ReplaysSome, redo_refusal}
+use Rattle.standby_core.specs.Steps.{GivenReplays, Gives, RecReplays, TypedForm, body_refusal, refusing, unread}
 use Rattle.standby_core.specs.View.{ReplaysTold, standby}
 use Rattle.standby_core.proofs.Refusing.{redone_not_memory}
 
@@ -74,21 +76,21 @@ pub given_replayed : (reader : Standing) (start end : Lsn) (old new : Standby) (
 given_replayed reader start end old new rec result form replays =
     record { found = form.found; given = form.given; replays = by form.form result replays }
   where
-    entry : Entry
-    entry = record { start = start.0; end = end.0; record_ = form.found }
+    due : Result Rec LogStop
+    due = typed_of (described_to old) (Ok (record { start = start.0; end = end.0; record_ = form.found }))
 
-    with_due : (r : Result Replayed NodeFault) → IsDue old (Ok entry) rec → RecReplays rec r old new → Replays r old new (Ok entry)
-    with_due (Ok (Applied s a c)) due h = (rec, due, h.0, h.1, h.2, h.3)
-    with_due (Ok (AtEnd lsn why)) due h = absurd h
-    with_due (Ok (Refused lsn what)) due h = (by_blocks rec h.0.0 due h.0.1 h.0.2, h.1)
-    with_due (Err Archive) due h = absurd h
-    with_due (Err Memory) due (inl same) = inl same
-    with_due (Err Memory) due (inr ran) = inr (rec, due, ran)
+    with_due : (r : Result Replayed NodeFault) → due ≡ Ok rec → RecReplays rec r old new → Replays r old new due
+    with_due (Ok (Applied s a c)) e h = (rec, e, h.0, h.1, h.2, h.3)
+    with_due (Ok (AtEnd lsn why)) e h = absurd h
+    with_due (Ok (Refused lsn what)) e h = (by_blocks rec h.0.0 e h.0.1 h.0.2, h.1)
+    with_due (Err Archive) e h = absurd h
+    with_due (Err Memory) e (inl same) = inl same
+    with_due (Err Memory) e (inr ran) = inr (rec, e, ran)
 
     by : (Ok rec ≡ Err body.Memory) ⊎ (Ok rec ≡ typed form.found start end old.database old.known) → (r : Result Replayed NodeFault)
-        → RecReplays rec r old new → Replays r old new (Ok entry)
+        → RecReplays rec r old new → Replays r old new due
     by (inl e) r h = cc
-    by (inr e) r h = with_due r (record { entry = entry; stands = refl; is_typed = sym e }) h
+    by (inr e) r h = with_due r (ap unless_refused (sym e)) h
 
 -- where a record has no typed form, it is refused
 pub given_refused : (reader : Standing) (start end : Lsn) (node : Standby) (at : Lsn) (found : BodyFault)
@@ -97,16 +99,14 @@ pub given_refused : (reader : Standing) (start end : Lsn) (node : Standby) (at :
 given_refused reader start end node at found is form =
     record { found = form.found; given = form.given; replays = by found form.form }
   where
-    entry : Entry
-    entry = record { start = start.0; end = end.0; record_ = form.found }
-
     by :
         (f : BodyFault) → (let r : Result Rec BodyFault = Err f in (r ≡ Err body.Memory) ⊎ (r ≡ typed form.found start end node.database node.known))
-        → Replays (refusing at (body_refusal f)) node node (Ok entry)
+        → Replays (refusing at (body_refusal f)) node node
+        (typed_of (described_to node) (Ok (record { start = start.0; end = end.0; record_ = form.found })))
     by (body.Length lsn) (inl e) = cc
-    by (body.Length lsn) (inr e) = (by_body entry (body.Length lsn) refl (sym e) refl refl, is)
+    by (body.Length lsn) (inr e) = (by_record log.Length (ap unless_refused (sym e)) refl refl, is)
     by (body.Unsupported lsn what) (inl e) = cc
-    by (body.Unsupported lsn what) (inr e) = (by_body entry (body.Unsupported lsn what) refl (sym e) refl refl, is)
+    by (body.Unsupported lsn what) (inr e) = (by_record (log.Unsupported what) (ap unless_refused (sym e)) refl refl, is)
     by body.Memory h = inl refl
 
 -- where redo refuses a record, it is refused at its blocks
@@ -124,24 +124,19 @@ blocks_refused rec old new at redo.Memory is (inl h) = inr h.1
 blocks_refused rec old new at redo.Memory is (inr e) = absurd (redone_not_memory rec old.known rec.blocks old.blocks new.blocks e)
 
 -- what is kept of the log is no part of what a replay does
-due_moved : (old : Standby) (kept : Kept) (found : Result Entry Stop) (rec : Rec) → IsDue (record old { kept = kept }) found rec → IsDue old found rec
-due_moved old kept found rec d = record { entry = d.entry; stands = d.stands; is_typed = d.is_typed }
-
-refused_moved : (old new : Standby) (kept : Kept) (found : Result Entry Stop) (what : What)
+refused_moved : (old new : Standby) (kept : Kept) (found : Result Rec LogStop) (what : What)
     → IsRefusedAs (record old { kept = kept }) new found what → IsRefusedAs old new found what
-refused_moved old new kept found what (by_form why e f g) = by_form why e f g
-refused_moved old new kept found what (by_body entry fault e f g h) = by_body entry fault e f g h
-refused_moved old new kept found what (by_blocks rec fault due e f) = by_blocks rec fault (due_moved old kept found rec due) e f
+refused_moved old new kept found what (by_record why e f g) = by_record why e f g
+refused_moved old new kept found what (by_blocks rec fault due e f) = by_blocks rec fault due e f
 
-replays_moved : (old new : Standby) (kept : Kept) (found : Result Entry Stop) (result : Result Replayed NodeFault)
+replays_moved : (old new : Standby) (kept : Kept) (found : Result Rec LogStop) (result : Result Replayed NodeFault)
     → Replays result (record old { kept = kept }) new found → Replays result old new found
 replays_moved old new kept found (Ok (Applied s a c)) h =
-    (h.0, due_moved old kept found h.0 h.1, record { blocks = h.2.blocks; others = h.2.others }, h.3, h.4, h.5)
+    (h.0, h.1, record { blocks = h.2.blocks; others = h.2.others }, h.3, h.4, h.5)
 replays_moved old new kept found (Ok (AtEnd lsn why)) h = h
 replays_moved old new kept found (Ok (Refused lsn what)) h = (refused_moved old new kept found what h.0, h.1)
 replays_moved old new kept found (Err Archive) h = h
-replays_moved old new kept found (Err Memory) (inl same) = inl same
-replays_moved old new kept found (Err Memory) (inr h) = inr (h.0, due_moved old kept found h.0 h.1, h.2)
+replays_moved old new kept found (Err Memory) h = h
 
 -- the log as it is told to the reader is the one that is told to the node
 same_told : (n : Node) (byte : ℕ → Option ℕ)
@@ -170,7 +165,7 @@ record_replayed (Some byte) n m new start end result reads others link replays k
   where
     by : Answers (Ok (next.Record start end)) n.reader.at (λ s. decoded m.reader.source.text s n.reader.prev)
         (step (record { byte = byte; owner = λ at. 1; system = n.reader.source.system; segsize = n.reader.source.segsize }) n.reader.at.0 n.reader.prev)
-        → Replays result (standby n) new (step (told_to (standby n) byte) n.reader.at.0 n.reader.prev)
+        → Replays result (standby n) new (record_at (told_to (standby n) byte) (described_to (standby n)) n.reader.at.0 n.reader.prev)
     by h =
         let there : decoded m.reader.source.text start.0 n.reader.prev ≡ Ok replays.found =
         subst (λ p. decoded m.reader.source.text start.0 p ≡ Ok replays.found) link replays.given in
@@ -178,9 +173,11 @@ record_replayed (Some byte) n m new start end result reads others link replays k
         let made : Record → Entry = λ r. record { start = start.0; end = end.0; record_ = r } in
         let stands : step (told_to (standby n) byte) n.reader.at.0 n.reader.prev ≡ Ok (made replays.found) =
         ap (λ t. step t n.reader.at.0 n.reader.prev) (sym (same_told n byte)) ∙ h.2 ∙ ap (λ r. Ok (made r)) one in
-        subst (Replays result (standby n) new) (sym stands)
-        (replays_moved (standby n) new (standby m).kept (Ok (made replays.found)) result
-        (subst (λ node. Replays result node new (Ok (made replays.found))) others replays.replays))
+        let due : record_at (told_to (standby n) byte) (described_to (standby n)) n.reader.at.0 n.reader.prev
+        ≡ typed_of (described_to (standby n)) (Ok (made replays.found)) = ap (typed_of (described_to (standby n))) stands in
+        subst (Replays result (standby n) new) (sym due)
+        (replays_moved (standby n) new (standby m).kept (typed_of (described_to (standby n)) (Ok (made replays.found))) result
+        (subst (λ node. Replays result node new (typed_of (described_to node) (Ok (made replays.found)))) others replays.replays))
 
 -- where the reader has no answer, the node's is that
 pub refusal_replayed :
@@ -193,11 +190,19 @@ refusal_replayed (Some byte) n m found reads others = λ told. let said = reads 
     same : (standby m).blocks ≡ (standby n).blocks
     same = ap (λ (s : Standby). s.blocks) others
 
+    stops_as : (why : Stop)
+        → step (record { byte = byte; owner = λ at. 1; system = n.reader.source.system; segsize = n.reader.source.segsize }) n.reader.at.0 n.reader.prev ≡ Err why
+        → record_at (told_to (standby n) byte) (described_to (standby n)) n.reader.at.0 n.reader.prev ≡ Err (stop_by why)
+    stops_as why e =
+        ap (λ t. typed_of (described_to (standby n)) (step t n.reader.at.0 n.reader.prev)) (sym (same_told n byte))
+        ∙ ap (typed_of (described_to (standby n))) e
+
     by : (f : ReadFault) → Answers (Err f) n.reader.at (λ s. decoded m.reader.source.text s n.reader.prev)
         (step (record { byte = byte; owner = λ at. 1; system = n.reader.source.system; segsize = n.reader.source.segsize }) n.reader.at.0 n.reader.prev)
-        → Replays (unread f) (standby n) (standby m) (step (told_to (standby n) byte) n.reader.at.0 n.reader.prev)
-    by (fault.Compressed lsn) h = (by_form stop.Compressed (ap (λ t. step t n.reader.at.0 n.reader.prev) (sym (same_told n byte)) ∙ h.0) refl same, h.1)
-    by (fault.TooLong lsn) h = (by_form stop.TooLong (ap (λ t. step t n.reader.at.0 n.reader.prev) (sym (same_told n byte)) ∙ h.0) refl same, h.1)
+        → Replays (unread f) (standby n) (standby m)
+        (record_at (told_to (standby n) byte) (described_to (standby n)) n.reader.at.0 n.reader.prev)
+    by (fault.Compressed lsn) h = (by_record log.Compressed (stops_as stop.Compressed h.0) refl same, h.1)
+    by (fault.TooLong lsn) h = (by_record log.TooLong (stops_as stop.TooLong h.0) refl same, h.1)
     by fault.Log h = same
     by fault.Memory h = inl same
 
@@ -207,8 +212,8 @@ pub record_replays_some : (old between new : Standby) (reader : Standing) (start
 record_replays_some old between new reader start end result others replays =
     let made : Record → Entry = λ r. record { start = start.0; end = end.0; record_ = r } in (
       Ok (made replays.found),
-      replays_moved old new between.kept (Ok (made replays.found)) result
-      (subst (λ node. Replays result node new (Ok (made replays.found))) others replays.replays),
+      replays_moved old new between.kept (typed_of (described_to old) (Ok (made replays.found))) result
+      (subst (λ node. Replays result node new (typed_of (described_to node) (Ok (made replays.found)))) others replays.replays),
     )
 
 pub end_replays_some : (old new : Standby) (lsn : Lsn) (why : EndWhy) → new ≡ record old { kept = new.kept } → BearsPosition old.at (Ok (next.AtEnd lsn why))
@@ -218,8 +223,8 @@ end_replays_some old new lsn why others bears = (Err (stop.End why), (refl, bear
 pub refusal_replays_some : (old new : Standby) (found : ReadFault) → new ≡ record old { kept = new.kept } → BearsPosition old.at (Err found)
     → ReplaysSome (unread found) old new
 refusal_replays_some old new (fault.Compressed lsn) others bears =
-    (Err stop.Compressed, (by_form stop.Compressed refl refl (ap (λ (s : Standby). s.blocks) others), bears))
+    (Err stop.Compressed, (by_record log.Compressed refl refl (ap (λ (s : Standby). s.blocks) others), bears))
 refusal_replays_some old new (fault.TooLong lsn) others bears =
-    (Err stop.TooLong, (by_form stop.TooLong refl refl (ap (λ (s : Standby). s.blocks) others), bears))
+    (Err stop.TooLong, (by_record log.TooLong refl refl (ap (λ (s : Standby). s.blocks) others), bears))
 refusal_replays_some old new fault.Log others bears = (Err stop.TooLong, ap (λ (s : Standby). s.blocks) others)
 refusal_replays_some old new fault.Memory others bears = (Err stop.TooLong, inl (ap (λ (s : Standby). s.blocks) others))

@@ -3,37 +3,24 @@
 use Rattle.std.specs.Prelude.{◌≡◌, ◌⊎◌, ℕ, ◌+◌, ◌^◌, ◌<◌, ◌≤◌, ◌==◌, Bool, false, Option, Some, None, Result, Ok, Err, if◌then◌else◌}
 use Rattle.pg_types.specs.declared.names.Lsn.{Lsn}
 use Rattle.wal_record.specs.declared.types.PrevRule.TheVariants.{Is}
-use Rattle.wal_reader.specs.declared.types.Stop.{Stop}
-use Rattle.wal_reader.specs.declared.types.Stop.TheVariants as stop
+use Rattle.wal_reader.specs.declared.types.Stop.{Stop as ReadStop}
 use Rattle.wal_reader.specs.Step.{Entry}
 use Rattle.wal_bodies.specs.declared.types.Rec.{Rec}
 use Rattle.wal_bodies.specs.declared.types.RecKind.{RecKind}
 use Rattle.wal_bodies.specs.declared.types.RecKind.TheVariants.{BackupEnd}
-use Rattle.wal_bodies.specs.declared.types.BodyFault.{BodyFault}
-use Rattle.wal_bodies.specs.declared.types.BodyFault.TheVariants as body
-use Rattle.wal_bodies.specs.Typed.{typed}
 use Rattle.heap_redo.specs.declared.fault.RedoFault.{RedoFault}
 use Rattle.heap_redo.specs.declared.fault.RedoFault.TheVariants as redo
 use Rattle.heap_redo.specs.Redone.{RanOut, redone}
 use Rattle.xact_redo.specs.State.{state_after}
+use Rattle.standby_model.specs.Log as log
+use Rattle.standby_model.specs.Log.{Stop, typed_of}
 use Rattle.standby_core.specs.declared.types.Refusal.{Refusal}
 use Rattle.standby_core.specs.declared.types.Refusal.TheVariants.{Compressed, TooLong, Length, Unsupported, NoPage, NoTuple, PageFull, BadPage}
 use Rattle.standby_core.specs.declared.types.Replayed.{Replayed}
 use Rattle.standby_core.specs.declared.types.Replayed.TheVariants.{Applied, AtEnd, Refused}
 use Rattle.standby_core.specs.declared.types.NodeFault.{NodeFault}
 use Rattle.standby_core.specs.declared.types.NodeFault.TheVariants.{Archive, Memory}
-use Rattle.standby_core.specs.Standby.{Standby}
-
--- the record that stands at the node's position in typed form, or why it is not read
-abbrev pub typed_at : Standby → Entry → Result Rec BodyFault
-typed_at node entry =
-    typed entry.record_ (record { 0 = entry.start }) (record { 0 = entry.end }) node.database node.known
-
--- the record at the node's position is this one
-pub record IsDue (node : Standby) (found : Result Entry Stop) (rec : Rec) : Type 0 where
-  pub entry : Entry
-  pub stands : found ≡ Ok entry
-  pub is_typed : typed_at node entry ≡ Ok rec
+use Rattle.standby_core.specs.Standby.{Standby, described_to}
 
 -- the end of the backup that began at this position
 abbrev pub ends_backup : Lsn → RecKind → Bool
@@ -58,17 +45,14 @@ pub record IsApplied (rec : Rec) (old new : Standby) : Type 0 where
         kept = new.kept;
       }
 
--- the refusal that a reader's or a body's or a redo's fault is; none at a log's end and for want of memory
-abbrev pub stop_refusal : Stop → Option Refusal
-stop_refusal (stop.End why) = None
-stop_refusal stop.Compressed = Some Compressed
-stop_refusal stop.TooLong = Some TooLong
+-- a refusal of a record by its form or its body, as the node's own
+abbrev pub refusal_of : log.Refusal → Refusal
+refusal_of log.Compressed = Compressed
+refusal_of log.TooLong = TooLong
+refusal_of log.Length = Length
+refusal_of (log.Unsupported what) = Unsupported what
 
-abbrev pub body_refusal : BodyFault → Option Refusal
-body_refusal (body.Length lsn) = Some Length
-body_refusal (body.Unsupported lsn what) = Some (Unsupported what)
-body_refusal body.Memory = None
-
+-- the refusal that a fault of redo is; none for want of memory
 abbrev pub redo_refusal : RedoFault → Option Refusal
 redo_refusal (redo.PageMissing lsn place) = Some (NoPage place.block)
 redo_refusal (redo.NoTuple lsn place) = Some (NoTuple place)
@@ -76,34 +60,33 @@ redo_refusal (redo.PageFull lsn place) = Some (PageFull place)
 redo_refusal (redo.BadPage lsn place) = Some (BadPage place.block)
 redo_refusal redo.Memory = None
 
--- why the record at the node's position is refused: by its form, by its body, or by the blocks that it changes, of
--- which those before the refused one are then as after the record
-pub data IsRefusedAs (old new : Standby) (found : Result Entry Stop) (what : Refusal) : Type 0 where
-  by_form : (why : Stop) → found ≡ Err why → stop_refusal why ≡ Some what → new.blocks ≡ old.blocks → IsRefusedAs old new found what
-  by_body :
-      (entry : Entry) (fault : BodyFault) → found ≡ Ok entry → typed_at old entry ≡ Err fault → body_refusal fault ≡ Some what
-      → new.blocks ≡ old.blocks → IsRefusedAs old new found what
+-- why the record at the node's position is refused: by its form or its body, or by the blocks that it changes, of which
+-- those before the refused one are then as after the record
+pub data IsRefusedAs (old new : Standby) (found : Result Rec Stop) (what : Refusal) : Type 0 where
+  by_record :
+      (why : log.Refusal) → found ≡ Err (log.Refused why) → refusal_of why ≡ what → new.blocks ≡ old.blocks
+      → IsRefusedAs old new found what
   by_blocks :
-      (rec : Rec) (fault : RedoFault) → IsDue old found rec → redone rec old.known rec.blocks old.blocks ≡ (new.blocks, Err fault)
+      (rec : Rec) (fault : RedoFault) → found ≡ Ok rec → redone rec old.known rec.blocks old.blocks ≡ (new.blocks, Err fault)
       → redo_refusal fault ≡ Some what → IsRefusedAs old new found what
 
 -- memory ran out before the blocks were changed, or after some of the record's blocks
-abbrev pub MayBeRedone : Standby → Standby → Result Entry Stop → Type 0
+abbrev pub MayBeRedone : Standby → Standby → Result Rec Stop → Type 0
 MayBeRedone old new found =
-    (new.blocks ≡ old.blocks) ⊎ ((rec : Rec) × IsDue old found rec × RanOut rec old.known old.blocks new.blocks)
+    (new.blocks ≡ old.blocks) ⊎ ((rec : Rec) × (found ≡ Ok rec) × RanOut rec old.known old.blocks new.blocks)
 
 -- the answer of one replay, by what stands at the node's position
-abbrev pub Replays : Result Replayed NodeFault → Standby → Standby → Result Entry Stop → Type 0
+abbrev pub Replays : Result Replayed NodeFault → Standby → Standby → Result Rec Stop → Type 0
 Replays (Ok (Applied start at cancelled)) old new found =
-    (rec : Rec) × IsDue old found rec × IsApplied rec old new × (rec.start ≡ start) × (rec.end ≡ at) × (cancelled ≡ 0)
-Replays (Ok (AtEnd lsn why)) old new found = (found ≡ Err (stop.End why)) × (lsn ≡ old.at) × (new.blocks ≡ old.blocks)
+    (rec : Rec) × (found ≡ Ok rec) × IsApplied rec old new × (rec.start ≡ start) × (rec.end ≡ at) × (cancelled ≡ 0)
+Replays (Ok (AtEnd lsn why)) old new found = (found ≡ Err (log.Ended why)) × (lsn ≡ old.at) × (new.blocks ≡ old.blocks)
 Replays (Ok (Refused lsn what)) old new found = IsRefusedAs old new found what × (lsn ≡ old.at)
 Replays (Err Archive) old new found = new.blocks ≡ old.blocks
 Replays (Err Memory) old new found = MayBeRedone old new found
 
 -- where nothing is told of what stands at the node's position, the answer is that of something that may stand there
 abbrev pub ReplaysSome : Result Replayed NodeFault → Standby → Standby → Type 0
-ReplaysSome result old new = (found : Result Entry Stop) × Replays result old new found
+ReplaysSome result old new = (found : Result Entry ReadStop) × Replays result old new (typed_of (described_to old) found)
 
 -- where no record was applied, all but the blocks, and what is kept of the log, is as before
 abbrev pub StaysUnlessApplied : Result Replayed NodeFault → Standby → Standby → Type 0

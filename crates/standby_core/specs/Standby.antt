@@ -8,6 +8,7 @@ use Rattle.wal_reader.specs.Kept.{Kept}
 use Rattle.wal_reader.specs.Told.{Told}
 use Rattle.heap_redo.specs.Redone.{View}
 use Rattle.xact_redo.specs.State.{TransactionState, before_records}
+use Rattle.standby_model.specs.Log.{Described}
 use Rattle.standby_core.specs.declared.types.Origin.{Origin}
 
 pub record Standby : Type 0 where
@@ -49,3 +50,7 @@ at_origin database known origin blocks = record {
 -- the log as it is told to the node
 abbrev pub told_to : Standby → (ℕ → Option ℕ) → Told
 told_to node byte = record { byte = byte; owner = λ at. 1; system = node.system; segsize = node.segsize }
+
+-- what is described to the node
+abbrev pub described_to : Standby → Described
+described_to node = record { database = node.database; files = node.known }

@@ -14,18 +14,25 @@ use Rattle.wal_bodies.specs.Typed.{typed}
 use Rattle.heap_redo.specs.declared.fault.RedoFault.{RedoFault}
 use Rattle.heap_redo.specs.Redone.{RanOut, redone}
 use Rattle.standby_core.specs.declared.types.Refusal.{Refusal}
-use Rattle.standby_core.specs.declared.types.Refusal.TheVariants.{Compressed, TooLong}
+use Rattle.standby_core.specs.declared.types.Refusal.TheVariants.{Compressed, TooLong, Length, Unsupported}
 use Rattle.standby_core.specs.declared.types.Replayed.{Replayed}
 use Rattle.standby_core.specs.declared.types.Replayed.TheVariants.{Applied, AtEnd, Refused}
 use Rattle.standby_core.specs.declared.types.NodeFault.{NodeFault}
 use Rattle.standby_core.specs.declared.types.NodeFault.TheVariants.{Archive, Memory}
-use Rattle.standby_core.specs.Standby.{Standby}
+use Rattle.standby_model.specs.Log.{typed_of}
+use Rattle.standby_core.specs.Standby.{Standby, described_to}
 use Rattle.standby_core.specs.Replay.{IsApplied, Replays, redo_refusal}
 
 -- a refusal as an answer; where there is none, memory ran out
 abbrev pub refusing : Lsn → Option Refusal → Result Replayed NodeFault
 refusing lsn (Some what) = Ok (Refused lsn what)
 refusing lsn None = Err Memory
+
+-- the refusal that a body's fault is; none for want of memory
+abbrev pub body_refusal : BodyFault → Option Refusal
+body_refusal (body.Length lsn) = Some Length
+body_refusal (body.Unsupported lsn what) = Some (Unsupported what)
+body_refusal body.Memory = None
 
 -- the answer where the reader has none
 abbrev pub unread : ReadFault → Result Replayed NodeFault
@@ -52,7 +59,8 @@ pub record TypedForm (reader : Standing) (start end : Lsn) (database : ℕ) (kno
 pub record GivenReplays (reader : Standing) (start end : Lsn) (result : Result Replayed NodeFault) (old new : Standby) : Type 0 where
   pub found : Record
   pub given : IsGiven reader start found
-  pub replays : Replays result old new (Ok (record { start = start.0; end = end.0; record_ = found }))
+  pub replays :
+      Replays result old new (typed_of (described_to old) (Ok (record { start = start.0; end = end.0; record_ = found })))
 
 -- a record in typed form is replayed
 abbrev pub RecReplays : Rec → Result Replayed NodeFault → Standby → Standby → Type 0

@@ -3,14 +3,14 @@ use Rattle.std.specs.Prelude.{◌≡◌, ℕ, false, length, Option, IfSome, is_
 use Rattle.page_store.specs.Content.{content, table_count}
 use Rattle.heap_redo.specs.Redone.{view_of}
 use Rattle.wal_reader.specs.Kept.{AreTold}
-use Rattle.wal_reader.specs.Step.{step}
 use Rattle.xact_redo.specs.State.{transactions}
 use Rattle.standby_core.specs.declared.node.Node.{Node}
 use Rattle.standby_core.specs.declared.types.NodeFault.{NodeFault}
 use Rattle.standby_core.specs.declared.types.NodeParts.{NodeParts}
 use Rattle.standby_core.specs.declared.types.NodeStatus.{NodeStatus}
 use Rattle.standby_core.specs.declared.types.Replayed.{Replayed}
-use Rattle.standby_core.specs.Standby.{Standby, told_to}
+use Rattle.standby_model.specs.Log.{record_at}
+use Rattle.standby_core.specs.Standby.{Standby, described_to, told_to}
 use Rattle.standby_core.specs.Replay.{Replays}
 
 unfoldable pub standby : Node → Standby
@@ -33,7 +33,7 @@ standby node = record {
 abbrev pub ReplaysTold : Option (ℕ → Option ℕ) → Result Replayed NodeFault → Standby → Standby → Type 0
 ReplaysTold told result old new =
     IfSome told (λ byte. AreTold byte old.kept
-    → AreTold byte new.kept × Replays result old new (step (told_to old byte) old.at.0 old.prev))
+    → AreTold byte new.kept × Replays result old new (record_at (told_to old byte) (described_to old) old.at.0 old.prev))
 
 -- where a node stands: the first timeline, no scans, not promoted
 unfoldable pub status_of : Standby → NodeStatus

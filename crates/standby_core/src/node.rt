@@ -2,8 +2,8 @@ ghost use Rattle.std.specs.Prelude.{◌≡◌, ◌<◌, ◌^◌, vec_len};
 ghost use Rattle.pg_types.specs.Names.{IsSegmentSize};
 ghost use Rattle.pg_types.specs.SegmentSizes.{IsSegmentSize-prop};
 ghost use Rattle.page_store.specs.Content.{table_count};
-ghost use Rattle.standby_core.specs.Replay.{awaited_after, body_refusal, redo_refusal};
-ghost use Rattle.standby_core.specs.Steps.{refusing, unread};
+ghost use Rattle.standby_core.specs.Replay.{awaited_after, redo_refusal};
+ghost use Rattle.standby_core.specs.Steps.{body_refusal, refusing, unread};
 
 use crate::types::{NodeFault, NodeParts, NodeStatus, Origin, Refusal, Replayed};
 use heap_redo::RedoFault;

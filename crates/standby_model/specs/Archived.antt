@@ -1,16 +1,10 @@
--- What the log's reader is told: the bytes of the archived segments of timeline 1, at 16 MiB a segment, of system 7;
--- and where the log begins.
+-- What the log's reader is told: the bytes of the archived segments of timeline 1, at 16 MiB a segment, of system 7.
 use Rattle.std.specs.Prelude.{ℕ, List, Option}
 use Rattle.wal_archive.specs.ArchiveLog.{archived_byte}
 use Rattle.wal_reader.specs.Told.{Told}
-use Rattle.standby_core.specs.declared.types.Origin.{Origin}
 
 abbrev pub segment_size : ℕ
 segment_size = 16777216
 
 abbrev pub told_by : (List ℕ → Option (List ℕ)) → Told
 told_by files = record { byte = archived_byte files segment_size; owner = λ at. 1; system = 7; segsize = segment_size }
-
--- the redo position of the base backup: after the long page header of segment 2. The next transaction id there is 700
-abbrev pub origin : Origin
-origin = record { system = 7; segsize = segment_size; redo = record { 0 = 0x2000028 }; next = record { 0 = 700 } }

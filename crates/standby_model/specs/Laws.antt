@@ -1,18 +1,22 @@
 -- What the definitions promise together.
-use Rattle.std.specs.Prelude.{◌≡◌, ℕ, List, Option}
+use Rattle.std.specs.Prelude.{◌≡◌, ◌<◌, ℕ, List, [], ◌∷◌}
 use Rattle.wal_reader.specs.Told.{Told}
 use Rattle.wal_bodies.specs.declared.types.Rec.{Rec}
-use Rattle.standby_core.specs.Standby.{Standby}
-use Rattle.standby_model.specs.Log.{IsLog, Stop}
-use Rattle.standby_model.specs.Scan.{Answers, Reply}
+use Rattle.standby_model.specs.Log.{Described, IsLog, Stands, Stop, end_of}
 
--- one log is told, with one standby that it leads to and one cause why it goes no further
+-- from a position one log is told, with one cause why it goes no further
 abbrev pub OneLog : Type 0
 OneLog =
-    (told : Told) (log other : List Rec) (node there : Standby) (stop why : Stop)
-    → IsLog told log node stop → IsLog told other there why → (log ≡ other) × (node ≡ there) × (stop ≡ why)
+    (told : Told) (described : Described) (from : ℕ) (log other : List Rec) (stop why : Stop)
+    → IsLog told described from log stop → IsLog told described from other why → (log ≡ other) × (stop ≡ why)
 
--- one answer exists for given words and files
-abbrev pub OneAnswer : Type 0
-OneAnswer =
-    (words : List (List ℕ)) (files : List ℕ → Option (List ℕ)) (a b : Reply) → Answers words files a → Answers words files b → a ≡ b
+-- each record ends behind the position where it was read
+abbrev pub Rises : ℕ → List Rec → Type 0
+Rises from [] = Unit {0}
+Rises from (rec ∷ older) = (end_of from older < rec.end.0) × Rises from older
+
+-- where segments have a size, a log that stands rises
+abbrev pub LogRises : Type 0
+LogRises =
+    (told : Told) (described : Described) (from : ℕ) (log : List Rec) → 0 < told.segsize → Stands told described from log
+    → Rises from log

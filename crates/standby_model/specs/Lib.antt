@@ -1,5 +1,3 @@
 pub mod Archived
 pub mod Laws
 pub mod Log
-pub mod Scan
-pub mod Tables

@@ -1,14 +1,17 @@
-//! The definitions that the program's contracts cite, and their laws.
+//! The log as it is told from a position on: its definition, which contracts of the node and of the program cite, and
+//! its laws.
 #![tactic(auto)]
 
-ghost use Rattle.standby_model.specs.Laws.{OneAnswer, OneLog};
+ghost use Rattle.standby_model.specs.Laws.{LogRises, OneLog};
 
-/// One log is told, with one standby that it leads to and one cause why it goes no further.
+/// From a position one log is told, with one cause why it goes no further.
 pub fn one_log()
     ensures { OneLog }
 {}
 
-/// One answer exists for given words and files.
-pub fn one_answer()
-    ensures { OneAnswer }
-{}
+/// Each record of a log ends behind the position where it was read.
+pub fn log_rises()
+    ensures { LogRises }
+{
+    wal_reader::steps_on();
+}

@@ -8,3 +8,4 @@ pub mod Logs
 pub mod Onward
 pub mod InPage
 pub mod LentSteps
+pub mod StepsOn

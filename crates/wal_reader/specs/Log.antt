@@ -1,5 +1,5 @@
 -- The log from a position on.
-use Rattle.std.specs.Prelude.{ℕ, ◌≡◌, Ok, Err, List, [], ◌∷◌}
+use Rattle.std.specs.Prelude.{ℕ, ◌≡◌, ◌<◌, Ok, Err, List, [], ◌∷◌}
 use Rattle.wal_record.specs.declared.types.PrevRule.{PrevRule}
 use Rattle.wal_record.specs.declared.types.PrevRule.TheVariants.{Is}
 use Rattle.wal_reader.specs.declared.types.Stop.{Stop}
@@ -26,3 +26,7 @@ OneLog =
     (told : Told) (from : ℕ) (before : PrevRule) (log other : List Entry) (end end' : ℕ) (stop stop' : Stop)
     → IsLog told from before log end stop → IsLog told from before other end' stop'
     → (log ≡ other) × (end ≡ end') × (stop ≡ stop')
+
+-- where segments have a size, a record ends behind the position where it is read
+abbrev pub StepsOn : Type 0
+StepsOn = (told : Told) (at : ℕ) (prev : PrevRule) (entry : Entry) → 0 < told.segsize → step told at prev ≡ Ok entry → at < entry.end

@@ -9,6 +9,6 @@ mod step;
 mod types;
 mod window;
 
-pub use laws::one_log;
+pub use laws::{one_log, steps_on};
 pub use reader::Reader;
 pub use types::{EndWhy, Halt, Next, ReadFault, Stop};

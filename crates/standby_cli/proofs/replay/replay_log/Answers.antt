@@ -30,7 +30,7 @@ records-preserved g c =
     let later : archived_bytes (g.A.Archive.files c.replay_one.new.archive) segment_size ≡ archived_bytes (g.A.Archive.files c.records.archive) segment_size =
     subst (λ (size : ℕ). archived_bytes (g.A.Archive.files c.replay_one.new.archive) size ≡ archived_bytes (g.A.Archive.files c.records.archive) size) inv.segsize is.told in
     record {
-      stands = led_on _ _ old new _ _ _ bytes inv.stands answer onward.0;
+      stands = led_on _ _ old new _ _ _ bytes inv.stands answer;
       tables = is.known ∙ inv.tables;
       segsize = is.segsize ∙ inv.segsize;
       bound = onward.1;

@@ -2,7 +2,7 @@ use Rattle.std.proofs.Common.{◌≡◌, ◌≤◌, ◌-◌, ◌+◌, ◌^◌}
 use Rattle.wal_archive.specs.ArchiveLog.{archived_bytes}
 use Rattle.standby_core.specs.View.{standby}
 use Rattle.standby_model.specs.Archived.{segment_size}
-use Rattle.standby_model.specs.Tables.{known}
+use Rattle.scan_model.specs.Tables.{known}
 use Rattle.standby_cli.specs.Replays.{StandsIn}
 use Rattle.standby_cli.proofs.replay.replay_log.Given as goal
 

@@ -4,8 +4,8 @@ use Rattle.pg_types.specs.declared.names.Locator.{Locator}
 use Rattle.page_store.specs.Content.{content}
 use Rattle.heap_redo.specs.Redone.{View, view_of}
 use Rattle.standby_core.specs.Standby.{at_origin}
-use Rattle.standby_model.specs.Archived.{origin}
-use Rattle.standby_model.specs.Tables.{database, known}
+use Rattle.scan_model.specs.Run.{origin}
+use Rattle.scan_model.specs.Tables.{database, known}
 use Rattle.standby_cli.proofs.Replaying.{no_blocks}
 use Rattle.standby_cli.proofs.replay.start.Goals as goal
 

@@ -3,10 +3,10 @@ use Rattle.page_store.specs.Content.{content}
 use Rattle.xact_redo.specs.State.{TransactionState, transactions}
 use Rattle.standby_core.specs.declared.types.NodeStatus.{NodeStatus}
 use Rattle.standby_core.specs.View.{standby, status_of}
-use Rattle.standby_model.specs.Scan.{AnswersOpening, Scanned, pages_from}
+use Rattle.scan_model.specs.Scan.{AnswersOpening, Scanned, pages_from}
 use Rattle.commit_log.specs.Log.{status_of as statuses_in}
 use Rattle.standby_snapshot.specs.Snapshot.{in_numbers}
-use Rattle.standby_model.specs.Tables.{table_with}
+use Rattle.scan_model.specs.Tables.{table_with}
 use Rattle.standby_cli.specs.Meaning.{page_in}
 use Rattle.standby_cli.specs.Replays.{bare}
 use Rattle.standby_cli.proofs.Opening.{count_is, is_known, not_admitted, opened}

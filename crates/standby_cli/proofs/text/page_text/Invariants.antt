@@ -1,6 +1,6 @@
 use Rattle.std.proofs.Common.{◌≡◌, take}
 use Rattle.std.specs.List.{flat_map}
-use Rattle.standby_model.specs.Scan.{row_line}
+use Rattle.scan_model.specs.Scan.{row_line}
 use Rattle.standby_cli.proofs.text.page_text.Given as goal
 
 abbrev pub invariant-loop-row : goal.invariant-loop-row

@@ -1,6 +1,6 @@
 use Rattle.std.proofs.Common.{◌≡◌, ◌++◌, take}
 use Rattle.std.specs.List.{flat_map}
-use Rattle.standby_model.specs.Scan.{escaped_byte}
+use Rattle.scan_model.specs.Scan.{escaped_byte}
 use Rattle.standby_cli.proofs.text.push_escaped.Given as goal
 
 abbrev pub invariant-loop-byte : goal.invariant-loop-byte

@@ -1,6 +1,6 @@
 use Rattle.std.proofs.Common.{◌≡◌, ◌++◌, take}
 use Rattle.std.specs.List.{flat_map}
-use Rattle.standby_model.specs.Scan.{tabbed}
+use Rattle.scan_model.specs.Scan.{tabbed}
 use Rattle.standby_cli.proofs.text.push_further.Given as goal
 
 abbrev pub invariant-loop-cell : goal.invariant-loop-cell

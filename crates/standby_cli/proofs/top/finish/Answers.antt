@@ -5,7 +5,7 @@ use Rattle.std.specs.Prelude.{codes}
 use Rattle.outside.specs.Faults.{Rose}
 use Rattle.standby_cli.specs.Meaning.{reply_meaning}
 use Rattle.standby_cli.proofs.Faults.{cut_off, either_rose}
-use Rattle.standby_model.specs.Scan.{text_of, line}
+use Rattle.scan_model.specs.Scan.{text_of, line}
 use Rattle.standby_cli.proofs.top.finish.Goals as goal
 
 pub returns-in-Err-Memory-clause-memory_line : goal.returns-in-Err-Memory-clause-memory_line

@@ -1,11 +1,13 @@
-use Rattle.std.proofs.Common.{◌≡◌, ◌⊎◌, map}
+use Rattle.std.proofs.Common.{◌≡◌, ◌⊎◌, ◌∙◌, inl, inr, sym, ap, map}
 use Rattle.std.specs.Prelude.{codes, string_bytes}
 use Rattle.outside.specs.Faults.{Rose}
 use Rattle.standby_cli.specs.Meaning.{reply_meaning}
 use Rattle.standby_cli.proofs.Faults.{cut_off_answer, cut_off_at_once}
 use Rattle.outside.specs.Sink.{Appends}
 use Rattle.standby_cli.proofs.Legal.{legal_replies}
-use Rattle.standby_model.specs.Scan.{line, status_of, text_of}
+use Rattle.scan_model.specs.Scan.{line, status_of, text_of}
+use Rattle.standby_cli.proofs.Pages.{two_is}
+use Rattle.standby_cli.proofs.Words.{told_so, two_or}
 use Rattle.standby_cli.proofs.top.standby_main.Goals as goal
 
 pub returns-in-Ok-clause-memory_line : goal.returns-in-Ok-clause-memory_line
@@ -29,3 +31,13 @@ returns-in-Ok-clause-rows g c = λ replied.
     legal_replies c.legal_scan.ensures (map string_bytes c.args.words.now) (g.A.Archive.files c.args.archive.now)
     (λ reply. (c.finish.result ≡ status_of reply) × Appends (g.O.Sink.written c.args.out.now) (g.O.Sink.written c.finish.new.out) (text_of reply))
     (reply_meaning c.in-Ok.reply) c.in-Ok.ensures.told (c.finish.ensures.replied replied)
+
+pub returns-in-Ok-clause-words : goal.returns-in-Ok-clause-words
+returns-in-Ok-clause-words g c = λ two.
+    let given = c.finish.ensures.replied (inr (inr (inl two))) in
+    let bad = two_is (reply_meaning c.in-Ok.reply) (sym given.0 ∙ two) in
+    (c.in-Ok.ensures.bad_words bad, told_so (g.O.Sink.written c.args.out.now) (g.O.Sink.written c.finish.new.out) (reply_meaning c.in-Ok.reply) bad given.1)
+
+pub returns-in-Ok-clause-other_words : goal.returns-in-Ok-clause-other_words
+returns-in-Ok-clause-other_words g c = λ none.
+    two_or c.finish.result c.in-Ok.reply (one_reply c.in-Ok.reply none) c.finish.ensures.statuses (λ r. (c.finish.ensures.replied r).0)

@@ -1,12 +1,14 @@
-use Rattle.std.proofs.Common.{nat_lt, ◌+◌, arith, refl, sym, ap, subst, ◌∙◌}
+use Rattle.std.proofs.Common.{ℕ, Result, Err, nat_lt, ◌+◌, arith, refl, sym, ap, subst, ◌∙◌}
 use Rattle.commit_log.specs.Log.{status_of}
 use Rattle.page_store.specs.Content.{Blocks, content}
-use Rattle.outside.specs.Sink.{Appends, AppendsPrefix}
+use Rattle.outside.specs.Sink.{Appends}
+use Rattle.pg_types.specs.declared.fail.Fail.{Fail}
+use Rattle.standby_cli.specs.Outcome.{WritesSome}
 use Rattle.seq_scan.specs.BlockRows.{BlockRows}
 use Rattle.standby_snapshot.specs.Snapshot.{in_numbers}
-use Rattle.standby_model.specs.Scan.{is_whole, page_text, status_at}
+use Rattle.scan_model.specs.Scan.{is_whole, page_text, status_at}
 use Rattle.standby_cli.specs.Meaning.{page_in}
-use Rattle.standby_cli.proofs.Appending.{nothing_appended, nothing_written}
+use Rattle.standby_cli.proofs.Appending.{nothing_appended}
 use Rattle.standby_cli.proofs.Pages.{at_first, wrote_all, wrote_front, wrote_last, wrote_some, wrote_whole}
 use Rattle.standby_cli.proofs.write.write_blocks.Goals as goal
 
@@ -26,16 +28,17 @@ pub returns-in-Err-clause-told : goal.returns-in-Err-clause-told
 returns-in-Err-clause-told g c =
     wrote_front (g.O.Sink.written c.args.out.now) (g.O.Sink.written c.loop-block.out)
     (page_in c.args.columns.now (in_numbers c.args.snapshot.now) (status_of c.args.state.now.log) (content c.args.pool.now) c.args.table)
-    c.args.table c.args.blocks c.loop-block.block c.loop-block.invariant.written (nothing_written (g.O.Sink.written c.loop-block.out))
+    c.args.table c.args.blocks c.loop-block.block c.loop-block.invariant.written
 
 pub returns-in-Err-write_page-clause-told : goal.returns-in-Err-write_page-clause-told
 returns-in-Err-write_page-clause-told g c =
     let page = page_in c.args.columns.now (in_numbers c.args.snapshot.now) (status_of c.args.state.now.log) (content c.args.pool.now) c.args.table in
     let b = c.loop-block.block in
     let is = c.in-Ok.ensures.rows ∙ ap (λ (blocks : Blocks). page_in c.args.columns.now (in_numbers c.args.snapshot.now) (status_of c.args.state.now.log) blocks c.args.table b) c.loop-block.invariant.content_is in
-    wrote_some (g.O.Sink.written c.args.out.now) (g.O.Sink.written c.loop-block.out) (g.O.Sink.written c.write_page.new.out) page
-    c.args.table c.args.blocks b c.loop-block-test.true c.loop-block.invariant.written
-    (subst (λ (p : BlockRows). AppendsPrefix (g.O.Sink.written c.loop-block.out) (g.O.Sink.written c.write_page.new.out) (page_text c.args.table b (nat_lt (b + 1) c.args.blocks) p)) is c.in-Err-write_page.ensures.told)
+    let r : Result ℕ Fail = Err c.in-Err-write_page.fail in
+    wrote_some {T = ℕ} (g.O.Sink.written c.args.out.now) (g.O.Sink.written c.loop-block.out) (g.O.Sink.written c.write_page.new.out) page
+    c.args.table c.args.blocks b c.in-Err-write_page.fail c.loop-block-test.true c.loop-block.invariant.written
+    (subst (λ (p : BlockRows). WritesSome (g.O.Sink.written c.loop-block.out) (g.O.Sink.written c.write_page.new.out) (page_text c.args.table b (nat_lt (b + 1) c.args.blocks) p) r) is c.in-Err-write_page.ensures.told)
 
 pub returns-then-not-is_whole-clause-told : goal.returns-then-not-is_whole-clause-told
 returns-then-not-is_whole-clause-told g c =

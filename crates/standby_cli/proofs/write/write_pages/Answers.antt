@@ -3,9 +3,9 @@ use Rattle.std.proofs.lemmas.Result.{IfOk-weaker}
 use Rattle.commit_log.specs.Log.{status_of as transaction_status}
 use Rattle.page_store.specs.Content.{content}
 use Rattle.standby_snapshot.specs.Snapshot.{in_numbers}
-use Rattle.standby_model.specs.Tables.{table_with}
+use Rattle.scan_model.specs.Tables.{table_with}
 use Rattle.standby_cli.specs.Meaning.{page_in}
-use Rattle.standby_cli.proofs.Appending.{prefix_of_any}
+use Rattle.standby_cli.proofs.Appending.{no_lines}
 use Rattle.standby_cli.proofs.Pages.{status_of_none}
 use Rattle.standby_cli.proofs.write.write_pages.Goals as goal
 
@@ -18,4 +18,4 @@ returns-then-scan-eq0-clause-status g c =
     c.write_line.ensures.status
 
 pub returns-in-Err-clause-told : goal.returns-in-Err-clause-told
-returns-in-Err-clause-told g c = prefix_of_any (g.O.Sink.written c.args.out.now) _
+returns-in-Err-clause-told g c = no_lines (g.O.Sink.written c.args.out.now) _

@@ -5,6 +5,7 @@ use Rattle.std.specs.Cmp.Lexicographic.{pointwise}
 use Rattle.pg_types.specs.declared.names.Locator.{Locator}
 use Rattle.heap_tuple.specs.declared.cell.Kind.TheVariants.{Int4, Text}
 use Rattle.heap_tuple.specs.declared.cell.Column.{Column}
+use Rattle.standby_model.specs.Log.{Described}
 
 -- a described table: its name, its file, the names of its columns, and their types
 pub record Table : Type 0 where
@@ -37,6 +38,10 @@ table_u = record {
 -- their files, in order of their numbers
 abbrev pub known : List Locator
 known = table_t.file ∷ table_u.file ∷ []
+
+-- what is described to a standby
+abbrev pub described : Described
+described = record { database = database; files = known }
 
 -- the number of the table with this name, from 0
 abbrev pub number_of : List ℕ → Option ℕ

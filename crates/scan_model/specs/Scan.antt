@@ -1,5 +1,5 @@
 -- The command `scan TABLE`: its words, its answer, and the text and exit status of each answer.
-use Rattle.std.specs.Prelude.{◌≡◌, ℕ, zero, suc, ◌+◌, Bool, true, false, not, ◌&&◌, List, [], ◌∷◌, ◌++◌, nat_eq, nat_lt, nat_le, ◌==◌, Option, Some, None, is_some, if◌then◌else◌, codes, slice_get, unwrap_or}
+use Rattle.std.specs.Prelude.{◌≡◌, ℕ, zero, suc, ◌+◌, Bool, true, false, not, ◌&&◌, List, [], ◌∷◌, ◌++◌, nat_eq, nat_lt, nat_le, ◌==◌, Option, Some, None, Result, Ok, Err, is_some, if◌then◌else◌, codes, slice_get, unwrap_or}
 use Rattle.std.specs.Cmp.Lexicographic.{pointwise}
 use Rattle.std.specs.List.{flat_map}
 use Rattle.std.specs.Fmt.{decimal, signed_decimal}
@@ -8,6 +8,7 @@ use Rattle.known_assigned.specs.declared.state.State.{State}
 use Rattle.known_assigned.specs.declared.state.State.TheVariants.{Initialized, Pending, Ready}
 use Rattle.heap_tuple.specs.declared.cell.Cell.{Cell}
 use Rattle.heap_tuple.specs.declared.cell.Cell.TheVariants.{Null, Bool as BoolCell, Int as IntCell, Bytes as BytesCell}
+use Rattle.heap_redo.specs.declared.fault.RedoFault.{RedoFault}
 use Rattle.heap_redo.specs.Redone.{Seen, absent, bad_block, seen_page}
 use Rattle.wal_bodies.specs.declared.types.Rec.{Rec}
 use Rattle.wal_bodies.specs.declared.types.What.{What}
@@ -17,9 +18,11 @@ use Rattle.xact_redo.specs.Sees.{sees}
 use Rattle.standby_core.specs.declared.types.Refusal.{Refusal}
 use Rattle.standby_core.specs.declared.types.Refusal.TheVariants.{Compressed, TooLong, Length, Unsupported, NoPage, NoTuple, PageFull, BadPage}
 use Rattle.standby_core.specs.Standby.{Standby}
+use Rattle.standby_core.specs.Replay.{redo_refusal, refusal_of}
 use Rattle.standby_model.specs.Archived.{told_by}
-use Rattle.standby_model.specs.Log.{IsLog, Stop, Ended, Refused}
-use Rattle.standby_model.specs.Tables.{number_of, table_with}
+use Rattle.standby_model.specs.Log.{Stands, Stop, Ended, Refused, next_of}
+use Rattle.scan_model.specs.Run.{origin, redone_at, replayed}
+use Rattle.scan_model.specs.Tables.{described, number_of, table_with}
 
 -- what the command answers: its words are not `scan` and a table; the record at this position is refused; the table is not
 -- described; the standby does not admit scans, with its minimum and position, whether the end of the base backup
@@ -87,17 +90,25 @@ abbrev pub AnswersTable : Standby → Option ℕ → Reply → Type 0
 AnswersTable node None reply = reply ≡ NoTable
 AnswersTable node (Some table) reply = AnswersOpening node table (is_admitted node) reply
 
-abbrev pub AnswersStop : List ℕ → Standby → Stop → Reply → Type 0
-AnswersStop name node (Ended why) reply = AnswersTable node (number_of name) reply
-AnswersStop name node (Refused what) reply = reply ≡ LogRefused node.at.0 what
+-- a record at which replay stops is refused at one of its blocks
+abbrev pub AnswersBlocks : Standby → Result Standby RedoFault → Reply → Type 0
+AnswersBlocks node (Ok next) reply = ⊥
+AnswersBlocks node (Err fault) reply =
+    (what : Refusal) × (redo_refusal fault ≡ Some what) × (reply ≡ LogRefused node.at.0 what)
 
--- the answer over the log that the archive's files tell
+-- by what stands behind the records that were replayed: the log ends there, or the next record is refused
+abbrev pub AnswersNext : List ℕ → Standby → Result Rec Stop → Reply → Type 0
+AnswersNext name node (Err (Ended why)) reply = AnswersTable node (number_of name) reply
+AnswersNext name node (Err (Refused what)) reply = reply ≡ LogRefused node.at.0 (refusal_of what)
+AnswersNext name node (Ok rec) reply = AnswersBlocks node (redone_at rec node) reply
+
+-- the answer over the log that the archive's files tell: of a standby that replayed it as far as it goes
 pub record AnswersLog (name : List ℕ) (files : List ℕ → Option (List ℕ)) (reply : Reply) : Type 0 where
   pub log : List Rec
+  pub stands : Stands (told_by files) described origin.redo.0 log
   pub node : Standby
-  pub stop : Stop
-  pub is_log : IsLog (told_by files) log node stop
-  pub says : AnswersStop name node stop reply
+  pub is_replayed : replayed log ≡ Ok node
+  pub says : AnswersNext name node (next_of (told_by files) described origin.redo.0 log) reply
 
 abbrev pub AnswersWords : Option (List ℕ) → (List ℕ → Option (List ℕ)) → Reply → Type 0
 AnswersWords None files reply = reply ≡ BadWords
