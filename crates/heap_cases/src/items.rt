@@ -36,7 +36,7 @@ pub struct Written {
     pub rest: Vec<u8>,
 }
 
-pub fn written(alloc: Global, fields: &[&str]) -> Result<Written, Wrong> {
+pub fn parts(alloc: Global, fields: &[&str]) -> Result<Written, Wrong> {
     match fields.split_last() {
         Some((rest, front)) => Ok(Written {
             head: header(front)?,
@@ -48,7 +48,7 @@ pub fn written(alloc: Global, fields: &[&str]) -> Result<Written, Wrong> {
 
 /// The bytes of such a tuple.
 pub fn tuple(alloc: Global, fields: &[&str]) -> Result<Vec<u8>, Wrong> {
-    let written = written(alloc, fields)?;
+    let written = parts(alloc, fields)?;
     let mut out = Vec::new(alloc);
     out.extend_from_slice(&written.head)?;
     out.extend_from_slice(written.rest.as_slice())?;

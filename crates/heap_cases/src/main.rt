@@ -32,7 +32,7 @@ struct Bench {
 }
 
 /// A page of zeros, two tables without blocks, and a record without blocks.
-fn bench(alloc: Global) -> Result<Bench, Wrong>
+fn empty_bench(alloc: Global) -> Result<Bench, Wrong>
     ensures { IfOk result (λ bench. table_count bench.pool ≡ 2) }
 {
     Ok(Bench {
@@ -96,7 +96,7 @@ fn reply(alloc: Global, bench: &mut Bench, line: &str) -> Result<String, Wrong>
 
 fn main(rt: HostRuntime) -> anyhow::Result<()> {
     let text = input(&rt)?;
-    let mut bench = bench(rt.alloc())?;
+    let mut bench = empty_bench(rt.alloc())?;
     for (index, line) in text.as_str().lines().enumerate() {
         if line.is_empty() || line.starts_with('#') {
             continue;

@@ -2,7 +2,7 @@ ghost use Rattle.std.specs.Prelude.{◌≡◌};
 ghost use Rattle.heap_page.specs.Page.{IsPage};
 ghost use Rattle.heap_page.specs.Shown.{IsState};
 
-use crate::items::{ShowItem, ShowPage, header, written};
+use crate::items::{ShowItem, ShowPage, header, parts};
 use case_text::{Wrong, bytes, number_u8, number_u16, position};
 use heap_page::{
     LineState, Page, PageError, check, init, item, put, restore, set_head, set_line, set_lsn,
@@ -145,7 +145,7 @@ fn put_fields(alloc: Global, page: &mut Page, words: &[&str]) -> Result<&'static
     match words.split_first() {
         Some((line, fields)) => {
             let line = number_u16(*line)?;
-            let tuple = written(alloc, fields)?;
+            let tuple = parts(alloc, fields)?;
             Ok(shown(put(page, line, &tuple.head, tuple.rest.as_slice())))
         }
         None => Err(Wrong::Line),

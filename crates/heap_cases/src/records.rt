@@ -63,7 +63,7 @@ impl Draft {
         self.rec.head.xid = Xid(number_u64(*xid)?);
         self.rec.start = position(*start)?;
         self.rec.end = position(*end)?;
-        let deed = deed(alloc, rest)?;
+        let deed = deed_of(alloc, rest)?;
         self.rec.head.info = deed.info;
         self.rec.kind = deed.kind;
         Ok(String::from_str(alloc, "record")?)
@@ -176,7 +176,7 @@ fn new_tuple(alloc: Global, words: &[&str]) -> Result<NewTuple, Wrong> {
 
 /// What a record does. The words of an update are the old xmax, line and bits, the flags, the new xmax and
 /// line.
-fn deed(alloc: Global, words: &[&str]) -> Result<Deed, Wrong> {
+fn deed_of(alloc: Global, words: &[&str]) -> Result<Deed, Wrong> {
     match *words {
         ["insert", line] => Ok(Deed {
             info: 0,
