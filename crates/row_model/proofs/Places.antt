@@ -76,5 +76,5 @@ one_permutation rows others p r s =
     one_order rows others r s (has_permuted rows others p) (has_permuted others rows (IsPermutation-sym rows others p))
 
 pub one_rows_holds : OneRows
-one_rows_holds committed vs rows others a b =
+one_rows_holds made committed vs rows others a b =
     one_permutation rows others (IsPermutation-trans rows _ others (IsPermutation-sym _ rows a.same) b.same) a.in_order b.in_order

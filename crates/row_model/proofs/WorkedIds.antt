@@ -6,9 +6,9 @@ use Rattle.known_assigned.specs.declared.state.RunningHead.{RunningHead}
 use Rattle.transaction_model.specs.Transactions.{TransactionRecord, committed, ended, Live, seen}
 use Rattle.transaction_model.specs.LegalTransactions.{CommitRule, Legal, OnlineRule, OriginRule, RunningRule, before, greatest_next, last_redo, starts_at}
 use Rattle.xact_redo.specs.TransactionsOf.{transaction_of, transactions_of}
-use Rattle.row_model.specs.WorkedRows.{insert_by_700, nothing_runs, online_checkpoint, update_by_701, worked_first, worked_log, worked_origin, worked_start}
+use Rattle.row_model.specs.WorkedRows.{insert_by_700, nothing_runs, online_checkpoint, update_by_701, worked_first, worked_log, worked_ids, worked_start}
 
-none_ended : (x : ℕ) → 3 ≤ x → ended worked_origin.at x [] ≡ false
+none_ended : (x : ℕ) → 3 ≤ x → ended worked_ids.at x [] ≡ false
 unfolding ended
 none_ended x normal =
     or_from ((x == 1 || x == 2) || false) false
@@ -18,7 +18,7 @@ none_ended x normal =
     refl)
     refl
 
-worked_rule : OriginRule worked_origin
+worked_rule : OriginRule worked_ids
 unfolding committed
 worked_rule =
     record {
@@ -39,14 +39,14 @@ one_among x n e = or_left (n == x) false (eq-eqb n x e)
 abbrev at_running : List TransactionRecord
 at_running = transactions_of (nothing_runs ∷ [])
 
-not_ended_at_running : (x : ℕ) → 700 ≤ x → ended worked_origin.at x at_running ≡ false
+not_ended_at_running : (x : ℕ) → 700 ≤ x → ended worked_ids.at x at_running ≡ false
 unfolding ended transaction_of
 not_ended_at_running x high =
-    or_from (nat_lt x 700) (ended worked_origin.at x []) (le-ltb x 700 high) (none_ended x (omega arith))
+    or_from (nat_lt x 700) (ended worked_ids.at x []) (le-ltb x 700 high) (none_ended x (omega arith))
 
-ended_at_running : (x : ℕ) → x < 700 → ended worked_origin.at x at_running ≡ true
+ended_at_running : (x : ℕ) → x < 700 → ended worked_ids.at x at_running ≡ true
 unfolding ended transaction_of
-ended_at_running x low = or_left (nat_lt x 700) (ended worked_origin.at x []) (lt-ltb x 700 low)
+ended_at_running x low = or_left (nat_lt x 700) (ended worked_ids.at x []) (lt-ltb x 700 low)
 
 abbrev worked_head : RunningHead
 worked_head =
@@ -58,7 +58,7 @@ worked_head =
       latest = record { 0 = 699 };
     }
 
-running_rule : RunningRule worked_origin worked_head [] at_running
+running_rule : RunningRule worked_ids worked_head [] at_running
 unfolding seen greatest_next transaction_of
 running_rule =
     record {
@@ -85,7 +85,7 @@ running_rule =
     }
 
 -- at the checkpoint's redo nothing had been written
-online_rule : OnlineRule worked_origin 0x2000028 700 at_running (transactions_of (online_checkpoint ∷ nothing_runs ∷ []))
+online_rule : OnlineRule worked_ids 0x2000028 700 at_running (transactions_of (online_checkpoint ∷ nothing_runs ∷ []))
 unfolding before greatest_next last_redo seen starts_at transaction_of
 online_rule =
     record {
@@ -101,33 +101,33 @@ online_rule =
     }
 
 -- a live transaction without subtransactions may commit
-commit_rule : (xid : ℕ) (older : List TransactionRecord) → Live worked_origin.at xid older → CommitRule worked_origin xid [] older
+commit_rule : (xid : ℕ) (older : List TransactionRecord) → Live worked_ids.at xid older → CommitRule worked_ids xid [] older
 commit_rule xid older live =
     record {
       is_top = refl;
-      live = λ x h. subst (λ (y : ℕ). Live worked_origin.at y older) (among_one x xid h) live;
+      live = λ x h. subst (λ (y : ℕ). Live worked_ids.at y older) (among_one x xid h) live;
       are_subs = λ x h. absurd (false≢true h);
       all = λ _ x l e. one_among x xid (sym e);
     }
 
 -- each of both writes and commits while it is live
-pub first_live : Live worked_origin.at 700 (transactions_of worked_start)
+pub first_live : Live worked_ids.at 700 (transactions_of worked_start)
 unfolding ended transaction_of
 first_live = record { normal = omega arith; not_ended = refl }
 
-pub second_live : Live worked_origin.at 701 (transactions_of worked_first)
+pub second_live : Live worked_ids.at 701 (transactions_of worked_first)
 unfolding ended transaction_of
 second_live = record { normal = omega arith; not_ended = refl }
 
-first_live_on : Live worked_origin.at 700 (transactions_of (insert_by_700 ∷ worked_start))
+first_live_on : Live worked_ids.at 700 (transactions_of (insert_by_700 ∷ worked_start))
 unfolding ended transaction_of
 first_live_on = record { normal = omega arith; not_ended = refl }
 
-second_live_on : Live worked_origin.at 701 (transactions_of (update_by_701 ∷ worked_first))
+second_live_on : Live worked_ids.at 701 (transactions_of (update_by_701 ∷ worked_first))
 unfolding ended transaction_of
 second_live_on = record { normal = omega arith; not_ended = refl }
 
-pub worked_legal : Legal worked_origin (transactions_of worked_log)
+pub worked_legal : Legal worked_ids (transactions_of worked_log)
 unfolding Legal transaction_of
 worked_legal = (
   commit_rule 701 (transactions_of (update_by_701 ∷ worked_first)) second_live_on,

@@ -1,35 +1,42 @@
 -- The worked log keeps to the rules, and its rows are as worked by hand.
-use Rattle.std.proofs.Common.{◌≡◌, ℕ, ◌<◌, Bool, true, false, nat_lt, ◌^◌, None, List, [], ◌∷◌, All, filter, arith, refl, sym, ap, ◌∙◌, subst}
-use Rattle.std.proofs.lemmas.Bool.{and_parts, ltb-true, false≢true}
+use Rattle.std.proofs.Common.{◌≡◌, ℕ, ◌<◌, Bool, true, false, nat_lt, ◌==◌, ◌^◌, None, List, [], ◌∷◌, All, filter, Result, Ok, Err, is_ok, arith, refl, sym, ap, ◌∙◌, subst, inl, inr}
+use Rattle.std.proofs.lemmas.Bool.{and_parts, eqb-true, ltb-true, false≢true, or_cases}
 use Rattle.std.proofs.lemmas.List.Elements.{All-cons, All-nil}
 use Rattle.std.proofs.lemmas.List.Sorted.{IsPermutation-refl}
 use Rattle.std.specs.List.Sorted.{IsPermutation}
 use Rattle.std.specs.List.{list_all}
 use Rattle.pg_types.specs.declared.names.Locator.{Locator}
+use Rattle.pg_types.specs.Numbers.{number_at}
 use Rattle.wal_bodies.specs.declared.types.NewTuple.{NewTuple}
 use Rattle.wal_bodies.specs.declared.types.RecBlock.{RecBlock}
 use Rattle.wal_bodies.specs.declared.types.Rec.{Rec}
-use Rattle.heap_tuple.specs.declared.tuple_view.MaxOf.TheVariants.{None as NoDeleter, Xid as DeletedBy}
-use Rattle.tuple_visibility.specs.Visible.{xmin_marks}
-use Rattle.transaction_model.specs.Transactions.{Statuses, TransactionRecord, committed}
-use Rattle.pg_types.specs.Numbers.{number_at}
-use Rattle.heap_tuple.specs.Tuple.{is_lock_only, max_of}
-use Rattle.wal_bodies.specs.After.{applied, joined, tuple_of}
+use Rattle.heap_tuple.specs.declared.tuple_view.MaxOf.TheVariants.{Xid as DeletedBy}
+use Rattle.heap_tuple.specs.Tuple.{is_lock_only, is_tuple, is_tuple_head, max_of}
+use Rattle.heap_page.specs.Item.{with_item}
+use Rattle.heap_page.specs.Put.{put_answer, set_head_answer}
+use Rattle.heap_redo.specs.declared.fault.RedoFault.{RedoFault}
+use Rattle.heap_redo.specs.Redone.{View, grown, redone, redone_at, redone_block, view_with, with_seen}
+use Rattle.transaction_model.specs.Transactions.{committed}
+use Rattle.wal_bodies.specs.After.{after, after_change, applied, change_head, changed, changed_page, joined, put, put_listed, put_version, tuple_of, update, update_old, update_within}
 use Rattle.wal_bodies.specs.HeapKinds.{same_locator}
-use Rattle.wal_bodies.specs.Heads.{head_bytes, marked_mask}
-use Rattle.xact_redo.specs.TransactionsOf.{transaction_of, transactions_of}
-use Rattle.row_model.specs.Versions.{Version, changed_at, version_at, with_step, with_steps}
-use Rattle.row_model.specs.RowSteps.{births, births_written, block_count, count_with, deleter_of_mark, own_steps, steps_in, update_steps, version_put, version_written, versions, whole_steps}
+use Rattle.wal_bodies.specs.Heads.{head_bytes, head_of, marked_mask, marked_mask2, replaced}
+use Rattle.xact_redo.specs.TransactionsOf.{kind_of, transaction_of}
+use Rattle.row_model.specs.Versions.{RowStep, Version, changed_at, version_at, with_step, with_steps}
+use Rattle.row_model.specs.Origins.{LogOrigin, committed_in}
+use Rattle.row_model.specs.Multixacts.{multixacts}
+use Rattle.row_model.specs.Locks.{is_gone, locks, since, up_to_running}
+use Rattle.row_model.specs.RowSteps.{births, births_written, block_count, count_with, deleter_of_mark, own_steps, steps_in, update_steps, version_put, version_written, versions, view_after, view_with_record, whole_steps}
 use Rattle.row_model.specs.Rows.{IsInPlaceOrder, is_row}
-use Rattle.row_model.specs.LegalRows.{StepsRule, AreBytes, AreMarksTrue, AreWellFormed, BlockFits, BlocksRule, ImageRule, AnewRule, KindFits, LegalTable, RecordFits, TableRule, TupleFits, are_apart}
+use Rattle.row_model.specs.LegalSteps.{BirthStep, DeleterStep, EachStep, KeepsTo, MultixactStep, RemovalStep, Takes, Unmarked}
+use Rattle.row_model.specs.LegalRows.{AnewRule, AreBytes, BlockFits, BlocksRule, CheckpointRule, ImageRule, KindFits, LegalAlong, LegalTable, LockRule, OnlineLocks, RecordFits, TableRule, TupleFits, are_apart, is_redo, is_redo_own, renews_first}
 use Rattle.row_model.proofs.WorkedIds.{first_live, second_live, worked_legal}
 use Rattle.row_model.specs.WorkedRows.{AreRowsAfter, IsWorkedRows, first_row, first_tuple, first_values, second_row, second_tuple, backup_end, commit_of_700, commit_of_701, insert_by_700, nothing_runs, online_checkpoint, update_by_701, worked_start, worked_block, worked_first, worked_log, worked_origin, worked_table}
 
 -- what a record keeps to in one of its blocks
-abbrev IsBlockRule : Statuses → List TransactionRecord → Locator → List Version → List Version → RecBlock → Type 0
-IsBlockRule s log table before after block =
+abbrev IsBlockRule : LogOrigin → Locator → List Rec → List Version → List Version → RecBlock → Type 0
+IsBlockRule o table older before after block =
     same_locator table block.locator ≡ true
-    → ImageRule s log after block.block (applied block.image) × AnewRule before block
+    → ImageRule o older after block.block (applied block.image) × AnewRule before block
 
 -- bytes by a test of each
 are_bytes : (bytes : List ℕ) → list_all (λ byte. nat_lt byte 256) bytes ≡ true → AreBytes bytes
@@ -38,35 +45,33 @@ are_bytes (b ∷ bytes) h =
     let (low, rest) = and_parts (nat_lt b 256) (list_all (λ byte. nat_lt byte 256) bytes) h in
     All-cons (λ (byte : ℕ). byte < 256) b bytes (ltb-true b 256 low) (are_bytes bytes rest)
 
-abbrev IsWellFormed : Rec → Type 0
-IsWellFormed rec = RecordFits rec × (are_apart rec.blocks ≡ true)
+-- a test holds of each
+all_true : (f : Rec → Bool) (log : List Rec) → list_all f log ≡ true → All (λ (rec : Rec). f rec ≡ true) log
+all_true f [] h = All-nil (λ (rec : Rec). f rec ≡ true)
+all_true f (rec ∷ log) h =
+    let (first, rest) = and_parts (f rec) (list_all f log) h in
+    All-cons (λ (r : Rec). f r ≡ true) rec log first (all_true f log rest)
 
 -- a record without blocks
 plain_fits :
-    (rec : Rec) (log : List Rec) → rec.head.xid.0 < 2 ^ 32 → KindFits rec.kind → rec.blocks ≡ [] → AreWellFormed log
-    → AreWellFormed (rec ∷ log)
-unfolding are_apart
+    (rec : Rec) (log : List Rec) → rec.head.xid.0 < 2 ^ 32 → KindFits rec.kind → rec.blocks ≡ [] → All RecordFits log
+    → All RecordFits (rec ∷ log)
 plain_fits rec log xid kind none rest =
-    All-cons IsWellFormed rec log
-    (record { xid = xid; kind = kind; blocks = subst (All BlockFits) (sym none) (All-nil BlockFits) }, ap are_apart none)
-    rest
+    All-cons RecordFits rec log (record { xid = xid; kind = kind; blocks = subst (All BlockFits) (sym none) (All-nil BlockFits) }) rest
 
 -- one with the worked block
 block_fits :
     (rec : Rec) (anew : Bool) (tuple : NewTuple) (log : List Rec) → rec.head.xid.0 < 2 ^ 32 → KindFits rec.kind
-    → rec.blocks ≡ worked_block anew tuple → TupleFits tuple → AreWellFormed log → AreWellFormed (rec ∷ log)
-unfolding are_apart
+    → rec.blocks ≡ worked_block anew tuple → TupleFits tuple → All RecordFits log → All RecordFits (rec ∷ log)
 block_fits rec anew tuple log xid kind is fits rest =
     let block : RecBlock = record { id = 0; locator = worked_table; block = 0; will_init = anew; image = None; tuples = tuple ∷ [] } in
     let block_is : BlockFits block = record { number = omega arith; image = tt; tuples = All-cons TupleFits tuple [] fits (All-nil TupleFits) } in
-    All-cons IsWellFormed rec log (
-      record {
-        xid = xid;
-        kind = kind;
-        blocks = subst (All BlockFits) (sym is) (All-cons BlockFits block [] block_is (All-nil BlockFits));
-      },
-      ap are_apart is,
-    )
+    All-cons RecordFits rec log
+    (record {
+      xid = xid;
+      kind = kind;
+      blocks = subst (All BlockFits) (sym is) (All-cons BlockFits block [] block_is (All-nil BlockFits));
+    })
     rest
 
 first_fits : TupleFits first_tuple
@@ -75,8 +80,8 @@ first_fits = record { mask2 = omega arith; mask = omega arith; hoff = omega arit
 second_fits : TupleFits second_tuple
 second_fits = record { mask2 = omega arith; mask = omega arith; hoff = omega arith; rest = are_bytes (0 ∷ 116 ∷ 119 ∷ 111 ∷ []) refl }
 
-well_formed : AreWellFormed worked_log
-well_formed =
+all_fit : All RecordFits worked_log
+all_fit =
     plain_fits commit_of_701 (update_by_701 ∷ worked_first) (omega arith) tt refl
     (block_fits update_by_701 false second_tuple worked_first (omega arith) (omega arith, (omega arith, omega arith)) refl
     second_fits
@@ -84,65 +89,74 @@ well_formed =
     (block_fits insert_by_700 true first_tuple worked_start (omega arith) tt refl first_fits
     (plain_fits backup_end (online_checkpoint ∷ nothing_runs ∷ []) (omega arith) tt refl
     (plain_fits online_checkpoint (nothing_runs ∷ []) (omega arith) tt refl
-    (plain_fits nothing_runs [] (omega arith) tt refl (All-nil IsWellFormed)))))))
+    (plain_fits nothing_runs [] (omega arith) tt refl (All-nil RecordFits)))))))
 
--- a tuple without a mark of its inserter, and without a deleter, has no false mark
-no_marks :
-    (s : Statuses) (log : List TransactionRecord) (v : Version) (tuple : List ℕ) → xmin_marks tuple ≡ 0
-    → v.deleter ≡ NoDeleter → AreMarksTrue s log v tuple
-no_marks s log v tuple none single =
+-- no table was dropped
+not_gone : (table : Locator) (log : List Rec) → is_gone table log ≡ false
+not_gone table [] = refl
+not_gone table (rec ∷ log) = not_gone table log
+
+no_locks : (o : LogOrigin) (table : Locator) (older : List Rec) (rec : Rec) → LockRule o table older rec
+no_locks o table older rec =
     record {
-      inserter_committed = λ x e h. absurd (omega arith);
-      inserter_failed = λ x e h. absurd (omega arith);
-      deleter_committed = λ x e h. absurd (cc);
-      deleter_failed = λ x e h. absurd (cc);
+      cut = λ blocks e. absurd (cc);
+      drop = λ e. absurd (false≢true e);
+      gone = λ e. absurd (false≢true (sym (not_gone table older) ∙ e));
     }
 
 -- a record without blocks keeps to each rule of rows
-plain_rule :
-    (s : Statuses) (log : List TransactionRecord) (table : Locator) (count : ℕ) (vs : List Version) (rec : Rec)
-    → rec.blocks ≡ [] → TableRule s log table count vs rec
+no_steps : (Rule : List Version → RowStep → Type 0) (o : LogOrigin) (table : Locator) (older : List Rec) (rec : Rec) → rec.blocks ≡ [] → KeepsTo Rule o table older rec
 unfolding steps_in
-plain_rule s log table count vs rec none =
+no_steps Rule o table older rec none =
+    subst (λ (blocks : List RecBlock). EachStep Rule (versions o table older) (steps_in rec table (block_count o table older) (versions o table older) blocks))
+    (sym none) tt
+
+plain_rule :
+    (o : LogOrigin) (table : Locator) (older : List Rec) (rec : Rec) → rec.blocks ≡ []
+    → CheckpointRule o table older (kind_of rec.head rec.kind) → TableRule o table older rec
+plain_rule o table older rec none checkpoint =
     record {
-      steps = subst (λ (blocks : List RecBlock). StepsRule s log vs (steps_in rec table count vs blocks)) (sym none) tt;
+      births = no_steps (BirthStep o table older) o table older rec none;
+      deleters = no_steps (DeleterStep o older) o table older rec none;
+      removals = no_steps (RemovalStep o older 0) o table older rec none;
+      cut = tt;
       blocks =
-          subst (BlocksRule s log table vs (with_steps vs (steps_in rec table count vs rec.blocks))) (sym none)
-          (All-nil (IsBlockRule s log table vs (with_steps vs (steps_in rec table count vs rec.blocks))));
+          subst (BlocksRule o table older (versions o table older) (versions o table (rec ∷ older))) (sym none)
+          (All-nil (IsBlockRule o table older (versions o table older) (versions o table (rec ∷ older))));
+      locks = no_locks o table older rec;
+      checkpoint = checkpoint;
+      multixacts = no_steps (MultixactStep older) o table older rec none;
     }
 
 -- a block without an image, made anew only where nothing stood there
 block_rule :
-    (s : Statuses) (log : List TransactionRecord) (before after : List Version) (anew : Bool) (tuple : NewTuple)
+    (o : LogOrigin) (older : List Rec) (before after : List Version) (anew : Bool) (tuple : NewTuple)
     → (anew ≡ true → (line : ℕ) → version_at 0 line before ≡ None)
-    → BlocksRule s log worked_table before after (worked_block anew tuple)
-block_rule s log before after anew tuple none =
-    All-cons (IsBlockRule s log worked_table before after)
+    → BlocksRule o worked_table older before after (worked_block anew tuple)
+block_rule o older before after anew tuple none =
+    All-cons (IsBlockRule o worked_table older before after)
     (record { id = 0; locator = worked_table; block = 0; will_init = anew; image = None; tuples = tuple ∷ [] })
-    [] (λ e. (tt, none)) (All-nil (IsBlockRule s log worked_table before after))
+    [] (λ e. (tt, none)) (All-nil (IsBlockRule o worked_table older before after))
 
-first_rule :
-    TableRule worked_origin.at (transactions_of worked_start) worked_table (block_count worked_table worked_start)
-    (versions worked_table worked_start) insert_by_700
+first_rule : TableRule worked_origin worked_table worked_start insert_by_700
 unfolding versions block_count steps_in count_with own_steps births births_written whole_steps tuple_of head_bytes with_steps with_step version_at max_of is_lock_only number_at
 first_rule =
     record {
-      steps = (
-        record {
-          free = refl;
-          live = first_live;
-          unmarked = refl;
-          deleter = tt;
-          marks = no_marks worked_origin.at (transactions_of worked_start) first_row first_row.tuple refl refl;
-        },
+      births = (
+        record { free = refl; live = first_live; inserter = Unmarked refl; unmarked = refl; spent = λ outside. tt },
         tt,
       );
-      blocks =
-          block_rule worked_origin.at (transactions_of worked_start) [] (first_row ∷ []) true first_tuple (λ e line. refl);
+      deleters = (tt, tt);
+      removals = (tt, tt);
+      cut = tt;
+      blocks = block_rule worked_origin worked_start [] (first_row ∷ []) true first_tuple (λ e line. refl);
+      locks = no_locks worked_origin worked_table worked_start insert_by_700;
+      checkpoint = tt;
+      multixacts = (tt, tt);
     }
 
 -- the versions after the first commit
-first_versions : versions worked_table worked_first ≡ first_row ∷ []
+first_versions : versions worked_origin worked_table worked_first ≡ first_row ∷ []
 unfolding versions block_count steps_in count_with own_steps births births_written whole_steps tuple_of head_bytes with_steps with_step max_of is_lock_only number_at
 first_versions = refl
 
@@ -150,59 +164,93 @@ first_versions = refl
 abbrev replaced_row : Version
 replaced_row = record first_row { deleter = DeletedBy (record { 0 = 701 }) }
 
-second_rule :
-    TableRule worked_origin.at (transactions_of worked_first) worked_table (block_count worked_table worked_first)
-    (versions worked_table worked_first) update_by_701
+first_committed : committed_in worked_origin worked_first 700 ≡ true
+unfolding committed transaction_of
+first_committed = refl
+
+second_rule : TableRule worked_origin worked_table worked_first update_by_701
 unfolding versions block_count steps_in count_with own_steps births births_written whole_steps tuple_of head_bytes with_steps with_step version_at max_of is_lock_only number_at update_steps version_put version_written deleter_of_mark joined marked_mask changed_at
 second_rule =
     record {
-      steps = (
+      births = (
         tt,
         (
-          record {
-            free = refl;
-            live = second_live;
-            unmarked = refl;
-            deleter = tt;
-            marks = no_marks worked_origin.at (transactions_of worked_first) second_row second_row.tuple refl refl;
-          },
+          record { free = refl; live = second_live; inserter = Unmarked refl; unmarked = refl; spent = λ outside. tt },
           tt,
         ),
       );
+      deleters = (Takes 701 refl second_live tt (inl first_committed), (tt, tt));
+      removals = (tt, (tt, tt));
+      cut = tt;
       blocks =
-          block_rule worked_origin.at (transactions_of worked_first) (first_row ∷ []) (second_row ∷ replaced_row ∷ []) false
-          second_tuple (λ e. absurd (false≢true e));
+          block_rule worked_origin worked_first (first_row ∷ []) (second_row ∷ replaced_row ∷ []) false second_tuple
+          (λ e. absurd (false≢true e));
+      locks = no_locks worked_origin worked_table worked_first update_by_701;
+      checkpoint = tt;
+      multixacts = (tt, (tt, tt));
     }
 
 -- the versions after the second
-second_versions : versions worked_table worked_log ≡ second_row ∷ replaced_row ∷ []
+second_versions : versions worked_origin worked_table worked_log ≡ second_row ∷ replaced_row ∷ []
 unfolding versions block_count steps_in count_with own_steps births births_written whole_steps tuple_of head_bytes with_steps with_step version_at max_of is_lock_only number_at update_steps version_put version_written deleter_of_mark joined marked_mask changed_at
 second_versions = refl
 
-worked_legal_table : LegalTable worked_origin.at worked_table worked_log
-worked_legal_table = (
-  plain_rule _ _ _ _ _ _ refl,
+-- the running record stands at the checkpoint's redo, and no lock is held
+online_locks : OnlineLocks worked_origin worked_table 0x2000028 (nothing_runs ∷ [])
+unfolding since up_to_running locks
+online_locks = record { running = λ e. cc; rewritten = λ x held live. absurd (false≢true held) }
+
+worked_along : LegalAlong worked_origin worked_table worked_log
+worked_along = (
+  plain_rule _ _ _ commit_of_701 refl tt,
   (
     second_rule,
     (
-      plain_rule _ _ _ _ _ _ refl,
+      plain_rule _ _ _ commit_of_700 refl tt,
       (
         first_rule,
-        (plain_rule _ _ _ _ _ _ refl, (plain_rule _ _ _ _ _ _ refl, (plain_rule _ _ _ _ _ _ refl, tt))),
+        (
+          plain_rule _ _ _ backup_end refl tt,
+          (plain_rule _ _ _ online_checkpoint refl online_locks, (plain_rule _ _ _ nothing_runs refl tt, tt)),
+        ),
       ),
     ),
   ),
 )
 
+-- the block is made anew by its first record, from the checkpoint's redo on as from the log's begin
+worked_renews : (redo : ℕ) → is_redo worked_log redo ≡ true → renews_first worked_table redo worked_log ≡ true
+unfolding renews_first since
+worked_renews redo h =
+    elim (or_cases (redo == 0) _ h) [
+      | inl begins ↦ subst (λ (n : ℕ). renews_first worked_table n worked_log ≡ true) (sym (eqb-true redo 0 begins)) refl
+      | inr later ↦ elim (or_cases (0x2000028 == redo) false later) [
+        | inl at ↦ subst (λ (n : ℕ). renews_first worked_table n worked_log ≡ true) (eqb-true 0x2000028 redo at) refl
+        | inr none ↦ absurd (false≢true none)
+      ]
+    ]
+
+worked_legal_table : LegalTable worked_origin worked_log worked_table
+worked_legal_table = record { along = worked_along; renews = worked_renews }
+
+-- the blocks where redo is not refused
+answered_view : (r : Result View RedoFault) → is_ok r ≡ true → (view : View) × (r ≡ Ok view)
+answered_view (Ok view) h = (view, refl)
+answered_view (Err fault) h = absurd (false≢true h)
+
+worked_redone : is_ok (view_after worked_origin (worked_table ∷ []) worked_log) ≡ true
+unfolding view_after view_with_record redone redone_at redone_block after after_change changed_page changed put_listed put tuple_of head_bytes view_with with_seen grown put_answer set_head_answer change_head update update_within update_old put_version joined is_tuple is_tuple_head with_item number_at head_of marked_mask marked_mask2 replaced
+worked_redone = refl
+
 -- the rows among these versions
-is_among_rows : (log : List Rec) (vs rows : List Version) → versions worked_table log ≡ vs
-    → filter (is_row (λ x. committed worked_origin.at x (transactions_of log))) vs ≡ rows → IsInPlaceOrder rows
+is_among_rows : (log : List Rec) (vs rows : List Version) → versions worked_origin worked_table log ≡ vs
+    → filter (is_row (multixacts log) (committed_in worked_origin log)) vs ≡ rows → IsInPlaceOrder rows
     → AreRowsAfter log rows
 is_among_rows log vs rows is kept order =
     record {
       same =
           subst (λ (l : List Version). IsPermutation l rows)
-          (sym (ap (filter (is_row (λ x. committed worked_origin.at x (transactions_of log)))) is ∙ kept))
+          (sym (ap (filter (is_row (multixacts log) (committed_in worked_origin log))) is ∙ kept))
           (IsPermutation-refl rows);
       in_order = order;
     }
@@ -216,14 +264,22 @@ unfolding committed transaction_of
 second_rows = is_among_rows worked_log (second_row ∷ replaced_row ∷ []) (second_row ∷ []) second_versions refl (tt, tt)
 
 pub worked_rows_are : IsWorkedRows
+unfolding are_apart
 worked_rows_are =
+    let (view, redone_is) = answered_view (view_after worked_origin (worked_table ∷ []) worked_log) worked_redone in
     record {
+      empty = record { tables = λ table. refl; none_committed = λ x. refl; none_aborted = λ x. refl };
+      fits = all_fit;
       legal =
           record {
-            well_formed = well_formed;
+            apart = all_true (λ (rec : Rec). are_apart rec.blocks) worked_log refl;
+            shutdowns = all_true is_redo_own worked_log refl;
             transactions = worked_legal;
-            rows = All-cons (λ (table : Locator). LegalTable worked_origin.at table worked_log) worked_table [] worked_legal_table
-                (All-nil (λ (table : Locator). LegalTable worked_origin.at table worked_log));
+            multixacts = (tt, (tt, (tt, (tt, (tt, (tt, (tt, tt)))))));
+            rows = All-cons (LegalTable worked_origin worked_log) worked_table [] worked_legal_table
+                (All-nil (LegalTable worked_origin worked_log));
+            view = view;
+            redone = redone_is;
           };
       first = first_rows;
       second = second_rows;

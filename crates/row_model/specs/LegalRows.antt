@@ -1,120 +1,48 @@
--- What a primary keeps to when it writes of a table's rows, record by record, beside the rules of transactions.
--- Sources: heapam.c (heap_insert, heap_delete, heap_update, heap_abort_speculative), heapam_visibility.c (SetHintBits),
--- xloginsert.c (XLogRegisterBuffer, XLogRecordAssemble).
-use Rattle.std.specs.Prelude.{◌≡◌, ℕ, ◌<◌, ◌^◌, Bool, true, false, ◌==◌, not, ◌&&◌, List, [], ◌∷◌, drop, All, Option, Some, None}
-use Rattle.std.specs.List.{list_all}
+-- What a primary keeps to when it writes its log, record by record and for one timeline: the rules of its records, of
+-- transactions, and of each described table's rows, blocks and locks.
+-- Sources: heapam.c, heapam_visibility.c (SetHintBits), xloginsert.c (XLogRegisterBuffer, XLogRecordAssemble), xlog.c
+-- (CreateCheckPoint), standby.c (LogStandbySnapshot), storage.c (RelationTruncate), multixact.c.
+use Rattle.std.specs.Prelude.{◌≡◌, ◌≢◌, ◌⊎◌, ℕ, ◌<◌, ◌^◌, Bool, true, false, ◌==◌, not, ◌&&◌, ◌||◌, nat_lt, List, [], ◌∷◌, All, Option, Some, None, Ok, if◌then◌else◌}
+use Rattle.std.specs.List.{list_all, list_any}
 use Rattle.pg_types.specs.declared.names.Locator.{Locator}
-use Rattle.pg_types.specs.declared.names.Xid.{Xid}
 use Rattle.wal_record.specs.declared.new.NewImage.{NewImage}
+use Rattle.wal_record.specs.declared.types.RecordHead.{RecordHead}
 use Rattle.wal_bodies.specs.declared.types.NewTuple.{NewTuple}
 use Rattle.wal_bodies.specs.declared.types.RecBlock.{RecBlock}
 use Rattle.wal_bodies.specs.declared.types.Rec.{Rec}
 use Rattle.wal_bodies.specs.declared.types.RecKind.{RecKind}
-use Rattle.wal_bodies.specs.declared.types.RecKind.TheVariants.{Delete, Update, Lock, LockUpdated}
+use Rattle.wal_bodies.specs.declared.types.RecKind.TheVariants.{Checkpoint, Delete, Update, Lock, LockUpdated}
 use Rattle.wal_bodies.specs.HeapKinds.{same_locator}
 use Rattle.wal_bodies.specs.After.{applied}
-use Rattle.heap_tuple.specs.Tuple.{xmin_of, infomask_of, columns_of, has_bits, max_of}
-use Rattle.heap_tuple.specs.declared.tuple_view.MaxOf.{MaxOf}
-use Rattle.heap_tuple.specs.declared.tuple_view.MaxOf.TheVariants.{None as NoDeleter, Xid as DeletedBy, Multi}
-use Rattle.heap_page.specs.Item.{Item, normal, numbered, is_normal}
-use Rattle.tuple_visibility.specs.Visible.{xmin_marks}
-use Rattle.transaction_model.specs.Transactions.{Statuses, TransactionRecord, Live, committed, ended}
-use Rattle.transaction_model.specs.LegalTransactions.{Legal, Origin}
-use Rattle.xact_redo.specs.TransactionsOf.{transactions_of}
-use Rattle.row_model.specs.Versions.{Version, Inserter, Nobody, Always, By, RowStep, Born, Deleter, Undone, version_at, version_born, with_step, with_steps}
-use Rattle.row_model.specs.RowSteps.{block_count, items_in, steps_of, versions}
+use Rattle.heap_redo.specs.Redone.{View, is_anew, is_left}
+use Rattle.transaction_model.specs.Transactions.{Kind, Commit, Abort, Assignment, Running, Shutdown, Online, Other}
+use Rattle.transaction_model.specs.LegalTransactions.{Legal}
+use Rattle.xact_redo.specs.TransactionsOf.{is_shutdown, kind_of, transactions_of}
+use Rattle.row_model.specs.Versions.{Version, version_at}
+use Rattle.row_model.specs.Origins.{LogOrigin, IsLive}
+use Rattle.row_model.specs.Multixacts.{NewMultixact, NewMultixactRule, made_by}
+use Rattle.row_model.specs.Locks.{UnderLock, changes_block, changes_table, drops, is_gone, is_held_by, since, up_to_running}
+use Rattle.row_model.specs.RowSteps.{cut_of, items_in, versions, view_after}
+use Rattle.row_model.specs.Shows.{ShowsBlock}
+use Rattle.row_model.specs.LegalSteps.{BirthStep, DeleterStep, KeepsTo, MultixactStep, RemovalStep, horizon_of}
 
--- a transaction ended, and not by a commit
-pub record HasFailed (s : Statuses) (x : ℕ) (log : List TransactionRecord) : Type 0 where
-  pub has_ended : ended s x log ≡ true
-  pub not_committed : committed s x log ≡ false
+-- Blocks.
 
--- The marks that a tuple bears of its inserter (0x0100 committed, 0x0200 invalid) and of its deleter (0x0400 committed,
--- 0x0800 invalid) are true after a log.
-pub record AreMarksTrue (s : Statuses) (log : List TransactionRecord) (v : Version) (tuple : List ℕ) : Type 0 where
-  pub inserter_committed : (x : ℕ) → v.inserter ≡ By x → xmin_marks tuple ≡ 0x0100 → committed s x log ≡ true
-  pub inserter_failed : (x : ℕ) → v.inserter ≡ By x → xmin_marks tuple ≡ 0x0200 → HasFailed s x log
-  pub deleter_committed : (x : Xid) → v.deleter ≡ DeletedBy x → has_bits (infomask_of tuple) 0x0400 ≡ true → committed s x.0 log ≡ true
-  pub deleter_failed : (x : Xid) → v.deleter ≡ DeletedBy x → has_bits (infomask_of tuple) 0x0800 ≡ true → HasFailed s x.0 log
-
--- the tuple stores the same row as that one: as many columns, nulls or none, and the same bytes from its hoff on
-pub record StoresSame (tuple written : List ℕ) : Type 0 where
-  pub columns : columns_of tuple ≡ columns_of written
-  pub nulls : has_bits (infomask_of tuple) 0x0001 ≡ has_bits (infomask_of written) 0x0001
-  pub bytes : drop 22 tuple ≡ drop 22 written
-
--- the tuple shows this inserter: xmin is 0 where the insertion was taken back, and it is frozen only where it was born so
-abbrev pub ShowsInserter : List ℕ → Inserter → Type 0
-ShowsInserter tuple Nobody = (xmin_of tuple ≡ 0) × ((xmin_marks tuple == 0x0300) ≡ false)
-ShowsInserter tuple Always = xmin_marks tuple ≡ 0x0300
-ShowsInserter tuple (By x) = (xmin_of tuple ≡ x) × ((xmin_marks tuple == 0x0300) ≡ false)
-
--- it shows this deleter; that of an insertion that was taken back may be any
-abbrev pub ShowsDeleter : List ℕ → Inserter → MaxOf → Type 0
-ShowsDeleter tuple Nobody d = Unit {0}
-ShowsDeleter tuple Always d = max_of tuple ≡ d
-ShowsDeleter tuple (By x) d = max_of tuple ≡ d
-
--- a tuple shows a version, and its marks are true; ctid and command id may be any
-pub record Shows (s : Statuses) (log : List TransactionRecord) (v : Version) (tuple : List ℕ) : Type 0 where
-  pub row : StoresSame tuple v.tuple
-  pub inserter : ShowsInserter tuple v.inserter
-  pub deleter : ShowsDeleter tuple v.inserter v.deleter
-  pub marks : AreMarksTrue s log v tuple
-
--- a line shows what stands at its place: a tuple exactly where there is a version
-abbrev pub ShowsPlace : Statuses → List TransactionRecord → Option Version → Item → Type 0
-ShowsPlace s log None item = is_normal item ≡ false
-ShowsPlace s log (Some v) item = (tuple : List ℕ) × (item ≡ normal tuple) × Shows s log v tuple
-
--- a page's lines show the versions of this block
-abbrev pub ShowsBlock : Statuses → List TransactionRecord → List Version → ℕ → List Item → Type 0
-ShowsBlock s log vs block items = (line : ℕ) → ShowsPlace s log (version_at block line vs) (numbered items line)
-
--- no multixact stands as a deleter: no record makes one yet
-abbrev pub IsSingle : MaxOf → Type 0
-IsSingle NoDeleter = Unit {0}
-IsSingle (DeletedBy x) = Unit {0}
-IsSingle (Multi id) = ⊥
-
--- a tuple is born at a free line by a live transaction, without a mark of its inserter (so it is not frozen: a lock
--- that would allow that is not read yet), and with no false mark
-pub record BirthRule (s : Statuses) (log : List TransactionRecord) (vs : List Version) (block line : ℕ) (tuple : List ℕ) : Type 0 where
-  pub free : version_at block line vs ≡ None
-  pub live : Live s (xmin_of tuple) log
-  pub unmarked : xmin_marks tuple ≡ 0
-  pub deleter : IsSingle (max_of tuple)
-  pub marks : AreMarksTrue s log (version_born block line tuple) tuple
-
--- an insertion is taken back by its own transaction, while that is live
-abbrev pub UndoneRule : Statuses → List TransactionRecord → Option Version → Type 0
-UndoneRule s log None = Unit {0}
-UndoneRule s log (Some v) = (x : ℕ) × (v.inserter ≡ By x) × Live s x log
-
-abbrev pub StepRule : Statuses → List TransactionRecord → List Version → RowStep → Type 0
-StepRule s log vs (Born block line tuple) = BirthRule s log vs block line tuple
-StepRule s log vs (Deleter block line d) = IsSingle d
-StepRule s log vs (Undone block line) = UndoneRule s log (version_at block line vs)
-
--- each step keeps its rule after those before it
-abbrev pub StepsRule : Statuses → List TransactionRecord → List Version → List RowStep → Type 0
-StepsRule s log vs [] = Unit {0}
-StepsRule s log vs (step ∷ steps) = StepRule s log vs step × StepsRule s log (with_step vs step) steps
-
--- an image that is restored shows the versions after the record; its marks are true before it
-abbrev pub ImageRule : Statuses → List TransactionRecord → List Version → ℕ → Option NewImage → Type 0
-ImageRule s log vs block None = Unit {0}
-ImageRule s log vs block (Some image) = ShowsBlock s log vs block (items_in image)
+-- an image that is restored shows the versions after the record, a tuple exactly where there is one; its marks are true
+-- before it. So one of a block inside the table brings no version of its own
+abbrev pub ImageRule : LogOrigin → List Rec → List Version → ℕ → Option NewImage → Type 0
+ImageRule o older after block None = Unit {0}
+ImageRule o older after block (Some image) = ShowsBlock o older after block (items_in image)
 
 -- a block that is made anew has no version before the record
 abbrev pub AnewRule : List Version → RecBlock → Type 0
-AnewRule vs block = block.will_init ≡ true → (line : ℕ) → version_at block.block line vs ≡ None
+AnewRule before block = block.will_init ≡ true → (line : ℕ) → version_at block.block line before ≡ None
 
 -- what the record keeps to in each of these blocks that is the table's, with the versions before and after it
-abbrev pub BlocksRule : Statuses → List TransactionRecord → Locator → List Version → List Version → List RecBlock → Type 0
-BlocksRule s log table before after blocks =
+abbrev pub BlocksRule : LogOrigin → Locator → List Rec → List Version → List Version → List RecBlock → Type 0
+BlocksRule o table older before after blocks =
     All (λ (block : RecBlock). same_locator table block.locator ≡ true
-    → ImageRule s log after block.block (applied block.image) × AnewRule before block) blocks
+    → ImageRule o older after block.block (applied block.image) × AnewRule before block) blocks
 
 -- no two of these blocks of a record are one (XLogRegisterBuffer asserts it)
 abbrev pub same_block : RecBlock → RecBlock → Bool
@@ -124,7 +52,124 @@ unfoldable pub are_apart : List RecBlock → Bool
 are_apart [] = true
 are_apart (a ∷ blocks) = list_all (λ b. not (same_block a b)) blocks && are_apart blocks
 
--- the numbers of a record fit the fields that they are read from
+-- Images after a redo position (full_page_writes).
+
+-- each block of the table that the record changes and none of these records did is restored from an image or made anew
+abbrev pub renews : Locator → List Rec → Rec → Bool
+renews table earlier rec =
+    list_all (λ (block : RecBlock).
+    not (same_locator table block.locator) || is_left rec block || is_anew block
+    || list_any (changes_block table block.block) earlier) rec.blocks
+
+-- from a redo position on, the first record that changes a block of the table restores it or makes it anew
+unfoldable pub renews_first : Locator → ℕ → List Rec → Bool
+renews_first table redo [] = true
+renews_first table redo (rec ∷ older) =
+    (nat_lt rec.start.0 redo || renews table (since redo older) rec) && renews_first table redo older
+
+-- the redo position of a checkpoint at this start
+abbrev pub has_redo : ℕ → ℕ → Kind → Bool
+has_redo redo start (Online at next) = at == redo
+has_redo redo start (Shutdown next) = start == redo
+has_redo redo start (Commit subs) = false
+has_redo redo start (Abort subs) = false
+has_redo redo start (Assignment top subs) = false
+has_redo redo start (Running head xids) = false
+has_redo redo start Other = false
+
+-- a redo position of the log: that of one of its checkpoints, or of the origin, at which the log begins; 0 stands for
+-- that, as no record starts before it
+abbrev pub is_redo : List Rec → ℕ → Bool
+is_redo log redo = (redo == 0) || list_any (λ (rec : Rec). has_redo redo rec.start.0 (kind_of rec.head rec.kind)) log
+
+-- Locks.
+
+-- a truncation of the table or a commit that drops it is made under a lock; after that commit no block of it is changed
+pub record LockRule (o : LogOrigin) (table : Locator) (older : List Rec) (rec : Rec) : Type 0 where
+  pub cut : (blocks : ℕ) → cut_of table rec.kind ≡ Some blocks → UnderLock o table older rec.head.xid.0
+  pub drop : drops table rec.kind ≡ true → UnderLock o table older rec.head.xid.0
+  pub gone : is_gone table older ≡ true → changes_table table rec ≡ false
+
+-- each lock in force of a live transaction is written again from the redo on, by itself or its top transaction
+abbrev pub WritesLocks : LogOrigin → Locator → ℕ → List Rec → Type 0
+WritesLocks o table redo log =
+    (x : ℕ) → is_held_by table log x ≡ true → IsLive o log x
+    → (is_held_by table (since redo log) x ≡ true) ⊎ (is_held_by table (since redo log) (o.transactions.top x) ≡ true)
+
+-- between an online checkpoint's redo and its own record stands a running record, and up to the last one the locks are
+-- written again
+pub record OnlineLocks (o : LogOrigin) (table : Locator) (redo : ℕ) (older : List Rec) : Type 0 where
+  pub running : since redo (up_to_running older) ≢ []
+  pub rewritten : WritesLocks o table redo (up_to_running older)
+
+abbrev pub CheckpointRule : LogOrigin → Locator → List Rec → Kind → Type 0
+CheckpointRule o table older (Online redo next) = OnlineLocks o table redo older
+CheckpointRule o table older (Shutdown next) = Unit {0}
+CheckpointRule o table older (Commit subs) = Unit {0}
+CheckpointRule o table older (Abort subs) = Unit {0}
+CheckpointRule o table older (Assignment top subs) = Unit {0}
+CheckpointRule o table older (Running head xids) = Unit {0}
+CheckpointRule o table older Other = Unit {0}
+
+-- a truncation takes no block in which a version holds its place
+abbrev pub CutRule : Option ℕ → List Version → Type 0
+CutRule None after = Unit {0}
+CutRule (Some blocks) after = All (λ (v : Version). v.holds ≡ true → v.block < blocks) after
+
+-- The legal log.
+
+-- what a record keeps to in a table, after the older ones
+pub record TableRule (o : LogOrigin) (table : Locator) (older : List Rec) (rec : Rec) : Type 0 where
+  pub births : KeepsTo (BirthStep o table older) o table older rec
+  pub deleters : KeepsTo (DeleterStep o older) o table older rec
+  pub removals : KeepsTo (RemovalStep o older (horizon_of rec.kind)) o table older rec
+  pub cut : CutRule (cut_of table rec.kind) (versions o table (rec ∷ older))
+  pub blocks : BlocksRule o table older (versions o table older) (versions o table (rec ∷ older)) rec.blocks
+  pub locks : LockRule o table older rec
+  pub checkpoint : CheckpointRule o table older (kind_of rec.head rec.kind)
+  pub multixacts : KeepsTo (MultixactStep older) o table older rec
+
+-- the rules of a table along a log, the newest record first
+abbrev pub LegalAlong : LogOrigin → Locator → List Rec → Type 0
+LegalAlong o table [] = Unit {0}
+LegalAlong o table (rec ∷ older) = TableRule o table older rec × LegalAlong o table older
+
+pub record LegalTable (o : LogOrigin) (log : List Rec) (table : Locator) : Type 0 where
+  pub along : LegalAlong o table log
+  pub renews : (redo : ℕ) → is_redo log redo ≡ true → renews_first table redo log ≡ true
+
+-- a shutdown checkpoint's redo is its own start
+abbrev pub is_redo_at : RecordHead → ℕ → RecKind → Bool
+is_redo_at head start (Checkpoint redo timeline previous writes next multi member oldest active) =
+    if is_shutdown head then redo.0 == start else true
+is_redo_at head start _ = true
+
+abbrev pub is_redo_own : Rec → Bool
+is_redo_own rec = is_redo_at rec.head rec.start.0 rec.kind
+
+-- the multixact of each record keeps its rule
+abbrev pub MakesMultixact : List Rec → Option NewMultixact → Type 0
+MakesMultixact older None = Unit {0}
+MakesMultixact older (Some new) = NewMultixactRule older new
+
+abbrev pub MakesMultixacts : List Rec → Type 0
+MakesMultixacts [] = Unit {0}
+MakesMultixacts (rec ∷ older) = MakesMultixact older (made_by rec.kind) × MakesMultixacts older
+
+-- a log, the newest record first, that a primary could write from this origin on, with these described tables. Redo of
+-- it meets no refusal: no block is missing or no page, or the one with the greatest number (InvalidBlockNumber), no line
+-- is otherwise than its record has it, and each tuple has room
+pub record LegalLog (o : LogOrigin) (known : List Locator) (log : List Rec) : Type 0 where
+  pub apart : All (λ (rec : Rec). are_apart rec.blocks ≡ true) log
+  pub shutdowns : All (λ (rec : Rec). is_redo_own rec ≡ true) log
+  pub transactions : Legal o.transactions (transactions_of log)
+  pub multixacts : MakesMultixacts log
+  pub rows : All (LegalTable o log) known
+  pub view : View
+  pub redone : view_after o known log ≡ Ok view
+
+-- The numbers of a record fit the fields that they are read from.
+
 abbrev pub AreBytes : List ℕ → Type 0
 AreBytes bytes = All (λ (byte : ℕ). byte < 256) bytes
 
@@ -154,24 +199,3 @@ pub record RecordFits (rec : Rec) : Type 0 where
   pub xid : rec.head.xid.0 < 2 ^ 32
   pub kind : KindFits rec.kind
   pub blocks : All BlockFits rec.blocks
-
--- what a record keeps to in a table, after the older ones: its steps one after the other, and its blocks
-pub record TableRule (s : Statuses) (log : List TransactionRecord) (table : Locator) (count : ℕ) (vs : List Version) (rec : Rec) : Type 0 where
-  pub steps : StepsRule s log vs (steps_of rec table count vs)
-  pub blocks : BlocksRule s log table vs (with_steps vs (steps_of rec table count vs)) rec.blocks
-
--- the rules of rows along a log, the newest record first, for one table
-abbrev pub LegalTable : Statuses → Locator → List Rec → Type 0
-LegalTable s table [] = Unit {0}
-LegalTable s table (rec ∷ older) =
-    TableRule s (transactions_of older) table (block_count table older) (versions table older) rec × LegalTable s table older
-
--- each record's numbers fit, and its blocks are apart
-abbrev pub AreWellFormed : List Rec → Type 0
-AreWellFormed log = All (λ (rec : Rec). RecordFits rec × (are_apart rec.blocks ≡ true)) log
-
--- a log, the newest record first, that a primary could write of transactions and of these tables' rows
-pub record LegalLog (o : Origin) (tables : List Locator) (log : List Rec) : Type 0 where
-  pub well_formed : AreWellFormed log
-  pub transactions : Legal o (transactions_of log)
-  pub rows : All (λ (table : Locator). LegalTable o.at table log) tables

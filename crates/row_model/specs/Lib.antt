@@ -1,6 +1,11 @@
 pub mod LegalRows
+pub mod LegalSteps
+pub mod Locks
+pub mod Multixacts
+pub mod Origins
 pub mod RowSteps
 pub mod Rows
 pub mod Shown
+pub mod Shows
 pub mod Versions
 pub mod WorkedRows

@@ -1,6 +1,7 @@
 -- The steps of a record on the rows of a table, and the table's versions and blocks after a log.
--- Sources: heapam_xlog.h; heapam.c (log_heap_update, heap_multi_insert); xlogutils.c (XLogReadBufferForRedo).
-use Rattle.std.specs.Prelude.{ℕ, ◌+◌, ◌==◌, Bool, true, false, not, ◌&&◌, ◌||◌, nat_le, max, List, [], ◌∷◌, ◌++◌, map, Option, Some, None, if◌then◌else◌}
+-- Sources: heapam_xlog.h; heapam.c (log_heap_update, heap_multi_insert); xlogutils.c (XLogReadBufferForRedo,
+-- XLogTruncateRelation).
+use Rattle.std.specs.Prelude.{ℕ, ◌+◌, ◌==◌, Bool, true, false, not, ◌&&◌, ◌||◌, nat_le, max, min, List, [], ◌∷◌, ◌++◌, map, slice_get, Option, Some, None, Result, Ok, Err, if◌then◌else◌}
 use Rattle.pg_types.specs.declared.names.Locator.{Locator}
 use Rattle.wal_record.specs.declared.new.NewImage.{NewImage}
 use Rattle.wal_bodies.specs.declared.types.NewTuple.{NewTuple}
@@ -17,8 +18,10 @@ use Rattle.heap_tuple.specs.declared.tuple_view.MaxOf.{MaxOf}
 use Rattle.heap_tuple.specs.declared.tuple_view.MaxOf.TheVariants.{None as NoDeleter, Xid as DeletedBy, Multi}
 use Rattle.heap_page.specs.Item.{Item, unused, normal, redirect, dead, numbered, tuple_in}
 use Rattle.heap_page.specs.Page.{items_of}
-use Rattle.heap_redo.specs.Redone.{is_left}
+use Rattle.heap_redo.specs.declared.fault.RedoFault.{RedoFault}
+use Rattle.heap_redo.specs.Redone.{Seen, absent, View, is_left, redone, view_outcome}
 use Rattle.row_model.specs.Versions.{Version, RowStep, Born, Deleter, Undone, version_at, with_steps}
+use Rattle.row_model.specs.Origins.{LogOrigin}
 
 -- the deleter that a tuple shows once a record marked it with this xmax and these bits: none for a lock alone
 -- (XLHL_XMAX_LOCK_ONLY and the lock's strength; XLHL_XMAX_IS_MULTI)
@@ -37,11 +40,11 @@ unfoldable pub births_written : ℕ → ℕ → List ℕ → List NewTuple → L
 births_written xid block [] tuples = []
 births_written xid block (line ∷ lines) [] = []
 births_written xid block (line ∷ lines) (tuple ∷ tuples) =
-    Born block line (tuple_of xid 0 block line tuple tuple.rest) ∷ births_written xid block lines tuples
+    Born false block line (tuple_of xid 0 block line tuple tuple.rest) ∷ births_written xid block lines tuples
 
 -- tuples that an image shows are born at these lines
 unfoldable pub births_shown : ℕ → List Item → List ℕ → List RowStep
-births_shown block items lines = map (λ line. Born block line (tuple_in (numbered items line))) lines
+births_shown block items lines = map (λ line. Born false block line (tuple_in (numbered items line))) lines
 
 -- tuples are born at these lines, read from the block's image where that is restored
 unfoldable pub births : Rec → RecBlock → Option NewImage → List ℕ → List RowStep
@@ -52,7 +55,7 @@ births rec block (Some image) lines = births_shown block.block (items_in image) 
 unfoldable pub version_written : Rec → RecBlock → ℕ → ℕ → List ℕ → List NewTuple → List RowStep
 version_written rec block xmax line old [] = []
 version_written rec block xmax line old (tuple ∷ tuples) =
-    Born block.block line (tuple_of rec.head.xid.0 xmax block.block line tuple (joined tuple old)) ∷ []
+    Born false block.block line (tuple_of rec.head.xid.0 xmax block.block line tuple (joined tuple old)) ∷ []
 
 unfoldable pub version_put : Rec → RecBlock → Option NewImage → ℕ → ℕ → List ℕ → List RowStep
 version_put rec block None xmax line old = version_written rec block xmax line old block.tuples
@@ -75,7 +78,8 @@ update_steps rec block old_xmax old_line old_bits new_xmax new_line (Some new_bl
 update_steps rec block old_xmax old_line old_bits new_xmax new_line None old_block vs = []
 
 -- the steps of a record of this kind in one of its blocks; a deletion with XLH_DELETE_IS_SUPER takes a speculative
--- insertion back
+-- insertion back. Versions are removed by XLOG_HEAP2_PRUNE and XLOG_HEAP2_VACUUM and frozen by
+-- XLOG_HEAP2_FREEZE_PAGE, which are not read yet
 unfoldable pub own_steps : Rec → RecBlock → RecKind → List Version → List RowStep
 own_steps rec block (Insert line flags) vs = births rec block (applied block.image) (line ∷ [])
 own_steps rec block (MultiInsert flags lines) vs = births rec block (applied block.image) lines
@@ -98,7 +102,7 @@ puts_tuples block _ = false
 unfoldable pub births_of_items : ℕ → ℕ → List Item → List RowStep
 births_of_items block line [] = []
 births_of_items block line (unused ∷ items) = births_of_items block (line + 1) items
-births_of_items block line (normal tuple ∷ items) = Born block line tuple ∷ births_of_items block (line + 1) items
+births_of_items block line (normal tuple ∷ items) = Born true block line tuple ∷ births_of_items block (line + 1) items
 births_of_items block line (redirect to ∷ items) = births_of_items block (line + 1) items
 births_of_items block line (dead ∷ items) = births_of_items block (line + 1) items
 
@@ -128,17 +132,47 @@ count_with rec table count (block ∷ blocks) =
     (if same_locator table block.locator && not (is_left rec block) then max count (block.block + 1) else count)
     blocks
 
--- how many blocks the table has after a log, the newest record first; at the log's origin it has none
-unfoldable pub block_count : Locator → List Rec → ℕ
-block_count table [] = 0
-block_count table (rec ∷ older) = count_with rec table (block_count table older) rec.blocks
+-- to how many blocks a record of this kind cuts the table: XLOG_SMGR_TRUNCATE brings it (storage_xlog.h)
+abbrev pub cut_of : Locator → RecKind → Option ℕ
+cut_of table kind = None
+
+-- so many blocks, if they are not cut to fewer
+abbrev pub cut_to : Option ℕ → ℕ → ℕ
+cut_to None count = count
+cut_to (Some blocks) count = min blocks count
+
+-- how many blocks the table has after a log, the newest record first
+unfoldable pub block_count : LogOrigin → Locator → List Rec → ℕ
+block_count o table [] = (o.tables table).count
+block_count o table (rec ∷ older) =
+    cut_to (cut_of table rec.kind) (count_with rec table (block_count o table older) rec.blocks)
 
 -- the steps of a record after these versions in so many blocks
 abbrev pub steps_of : Rec → Locator → ℕ → List Version → List RowStep
 steps_of rec table count vs = steps_in rec table count vs rec.blocks
 
--- the table's versions after a log, the newest record first; at the log's origin it has none
-unfoldable pub versions : Locator → List Rec → List Version
-versions table [] = []
-versions table (rec ∷ older) =
-    with_steps (versions table older) (steps_of rec table (block_count table older) (versions table older))
+-- the table's versions after a log, the newest record first
+unfoldable pub versions : LogOrigin → Locator → List Rec → List Version
+versions o table [] = (o.tables table).versions
+versions o table (rec ∷ older) =
+    with_steps (versions o table older) (steps_of rec table (block_count o table older) (versions o table older))
+
+-- the blocks of the described tables where a log begins, by the tables' numbers
+abbrev pub blocks_of : LogOrigin → Option Locator → ℕ → Seen
+blocks_of o None block = absent
+blocks_of o (Some table) block = (o.tables table).blocks block
+
+abbrev pub view_before : LogOrigin → List Locator → View
+view_before o known table block = blocks_of o (slice_get known table) block
+
+-- the blocks after one record more, where its redo is not refused
+unfoldable pub view_with_record : Rec → List Locator → Result View RedoFault → Result View RedoFault
+view_with_record rec known (Err fault) = Err fault
+view_with_record rec known (Ok view) =
+    view_outcome (redone rec known rec.blocks view).0 (redone rec known rec.blocks view).1
+
+-- the blocks after redo of a log's records, the newest first, over those where the log begins, or the fault of the
+-- first that is refused
+unfoldable pub view_after : LogOrigin → List Locator → List Rec → Result View RedoFault
+view_after o known [] = Ok (view_before o known)
+view_after o known (rec ∷ older) = view_with_record rec known (view_after o known older)

@@ -1,7 +1,7 @@
 -- A log of a table's rows, worked by hand: 700 inserts (1, 'alpha-one-omega') into a new block and commits, and 701
 -- updates it in the same block to (1, 'alpha-two-omega'), of which its record has only what differs, and commits.
 -- Sources: heapam.c (heap_insert, heap_update, log_heap_update), htup_details.h.
-use Rattle.std.specs.Prelude.{ℕ, ◌-◌, pos, Bool, true, false, List, [], ◌∷◌, None}
+use Rattle.std.specs.Prelude.{ℕ, ◌-◌, pos, Bool, true, false, List, [], ◌∷◌, All, None}
 use Rattle.pg_types.specs.declared.names.Locator.{Locator}
 use Rattle.wal_bodies.specs.declared.types.NewTuple.{NewTuple}
 use Rattle.wal_bodies.specs.declared.types.RecBlock.{RecBlock}
@@ -9,18 +9,22 @@ use Rattle.wal_bodies.specs.declared.types.Rec.{Rec}
 use Rattle.wal_bodies.specs.declared.types.RecKind.{RecKind}
 use Rattle.wal_bodies.specs.declared.types.RecKind.TheVariants.{Checkpoint, BackupEnd, Ended, Running, Insert, Update}
 use Rattle.heap_tuple.specs.declared.tuple_view.MaxOf.TheVariants.{None as NoDeleter}
-use Rattle.transaction_model.specs.Transactions.{committed}
 use Rattle.transaction_model.specs.LegalTransactions.{Origin}
-use Rattle.xact_redo.specs.TransactionsOf.{transactions_of}
 use Rattle.row_model.specs.Versions.{Version, By}
+use Rattle.row_model.specs.Origins.{BeginsEmpty, LogOrigin, committed_in, empty_table}
+use Rattle.row_model.specs.Multixacts.{multixacts}
 use Rattle.row_model.specs.RowSteps.{versions}
 use Rattle.row_model.specs.Rows.{IsRows}
-use Rattle.row_model.specs.LegalRows.{LegalLog}
+use Rattle.row_model.specs.LegalRows.{LegalLog, RecordFits}
 
 -- nothing has committed or aborted, and each id is a top transaction
-abbrev pub worked_origin : Origin
-worked_origin =
+abbrev pub worked_ids : Origin
+worked_ids =
     record { at = record { is_committed = λ (x : ℕ). false; is_aborted = λ (x : ℕ). false }; top = λ (x : ℕ). x }
+
+-- and each table is empty
+abbrev pub worked_origin : LogOrigin
+worked_origin = record { transactions = worked_ids; tables = λ (table : Locator). empty_table }
 
 abbrev pub worked_table : Locator
 worked_table = record { space = 1663; db = 16384; rel = 16385 }
@@ -121,6 +125,8 @@ first_row =
       line = 1;
       inserter = By 700;
       deleter = NoDeleter;
+      frozen = false;
+      holds = true;
       tuple =
           188 ∷ 2 ∷ 0 ∷ 0
           ∷ 0 ∷ 0 ∷ 0 ∷ 0
@@ -139,6 +145,8 @@ second_row =
       line = 2;
       inserter = By 701;
       deleter = NoDeleter;
+      frozen = false;
+      holds = true;
       tuple =
           189 ∷ 2 ∷ 0 ∷ 0
           ∷ 0 ∷ 0 ∷ 0 ∷ 0
@@ -152,9 +160,11 @@ second_row =
 -- the rows after a log
 abbrev pub AreRowsAfter : List Rec → List Version → Type 0
 AreRowsAfter log rows =
-    IsRows (λ x. committed worked_origin.at x (transactions_of log)) (versions worked_table log) rows
+    IsRows (multixacts log) (committed_in worked_origin log) (versions worked_origin worked_table log) rows
 
 pub record IsWorkedRows : Type 0 where
+  pub empty : BeginsEmpty worked_origin
+  pub fits : All RecordFits worked_log
   pub legal : LegalLog worked_origin (worked_table ∷ []) worked_log
   pub first : AreRowsAfter worked_first (first_row ∷ [])
   pub second : AreRowsAfter worked_log (second_row ∷ [])

@@ -16,6 +16,15 @@ pub each-append : (P : Version → Type 0) (vs more : List Version) → Each P v
 each-append P [] more all also = also
 each-append P (v ∷ vs) more (first, rest) also = (first, each-append P vs more rest also)
 
+-- without one in the middle
+pub each-without : (P : Version → Type 0) (vs : List Version) (v : Version) (more : List Version) → Each P (vs ++ v ∷ more) → Each P (vs ++ more)
+each-without P [] v more (first, rest) = rest
+each-without P (u ∷ vs) v more (first, rest) = (first, each-without P vs v more rest)
+
+-- a version holds its place
+abbrev pub Stands : Version → Type 0
+Stands v = v.holds ≡ true
+
 -- a filter keeps all, or nothing
 pub filter_all : (p : Version → Bool) (vs : List Version) → Each (λ v. p v ≡ true) vs → filter p vs ≡ vs
 filter_all p [] all = refl

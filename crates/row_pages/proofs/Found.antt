@@ -10,8 +10,8 @@ use Rattle.row_model.specs.Versions.{Version, is_at, version_at}
 use Rattle.row_model.specs.Shown.{count_at}
 use Rattle.row_model.specs.Rows.{IsBefore, IsBeforeAll, IsInPlaceOrder}
 use Rattle.row_pages.specs.Pages.{is_in_block}
-use Rattle.row_pages.proofs.Each.{Each, each-weaker, each-append, filter_all, filter_none}
-use Rattle.row_pages.proofs.Places.{AreApart, found_at, at_place, count_head, count_rest}
+use Rattle.row_pages.proofs.Each.{Each, Stands, each-weaker, each-append, filter_all, filter_none}
+use Rattle.row_pages.proofs.Places.{AreApart, found_at, found_holds, at_place, count_head, count_rest}
 
 -- a version that passes a test
 abbrev pub row_in : (Version → Bool) → Option Version → List Version
@@ -84,6 +84,32 @@ all_in_block test vs block bad_block = tt
 all_in_block test vs block (seen_page lsn items) =
     each-weaker (IsFrom block 1) (λ v. v.block ≡ block) (rows_on test vs block 1 items) (from_in block 1)
     (all_from test vs block 1 items)
+
+-- all of them hold their places
+row_stands : (test : Version → Bool) (o : Option Version) → ((v : Version) → o ≡ Some v → Stands v) → Each Stands (row_in test o)
+row_stands test None stands = tt
+row_stands test (Some v) stands =
+    cond_both (test v) (v ∷ []) [] (λ vs. Each Stands vs) (λ e. (stands v refl, tt)) (λ e. tt)
+
+on_stand : (test : Version → Bool) (vs : List Version) (block line : ℕ) (items : List Item) → Each Stands (rows_on test vs block line items)
+unfolding rows_on
+on_stand test vs block line [] = tt
+on_stand test vs block line (item ∷ items) =
+    each-append Stands (row_in test (version_at block line vs)) (rows_on test vs block (line + 1) items)
+    (row_stands test (version_at block line vs) (found_holds block line vs)) (on_stand test vs block (line + 1) items)
+
+in_stand : (test : Version → Bool) (vs : List Version) (block : ℕ) (seen : Seen) → Each Stands (rows_in test vs block seen)
+unfolding rows_in
+in_stand test vs block absent = tt
+in_stand test vs block bad_block = tt
+in_stand test vs block (seen_page lsn items) = on_stand test vs block 1 items
+
+pub below_stand : (test : Version → Bool) (vs : List Version) (blocks : ℕ → Seen) (n : ℕ) → Each Stands (rows_below test vs blocks n)
+unfolding rows_below
+below_stand test vs blocks zero = tt
+below_stand test vs blocks (suc n) =
+    each-append Stands (rows_below test vs blocks n) (rows_in test vs n (blocks n)) (below_stand test vs blocks n)
+    (in_stand test vs n (blocks n))
 
 below_next : (n : ℕ) (v : Version) → v.block < n → v.block < suc n
 below_next n v h = omega arith

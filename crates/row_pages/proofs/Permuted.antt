@@ -6,6 +6,7 @@ use Rattle.std.proofs.lemmas.List.Sums.{sum_by-append}
 use Rattle.std.proofs.lemmas.List.Sorted.{IsPermutation-refl, IsPermutation-sym, IsPermutation-trans, IsPermutation-cons, IsPermutation-middle}
 use Rattle.row_model.specs.Versions.{Version, is_at, version_at}
 use Rattle.row_model.specs.Shown.{count_at}
+use Rattle.row_pages.proofs.Each.{Each, Stands, each-without}
 use Rattle.row_pages.proofs.Places.{AreApart, first_of_two, nothing_is_some, the_same, from_place, at_head, at_rest, at_none, version_at-append, none_counted, count_head, count_rest, apart_rest}
 
 -- the same version stands at each place
@@ -77,23 +78,24 @@ same_without v vs us ws apart also same block line =
       | inr t ↦ sym (at_rest block line v vs t) ∙ same block line ∙ elsewhere v us ws block line t
     ]
 
-at_its_place : (v : Version) (vs : List Version) → version_at v.block v.line (v ∷ vs) ≡ Some v
-at_its_place v vs = at_head v.block v.line v vs (from_place v.block v.line v refl refl)
+at_its_place : (v : Version) (vs : List Version) → v.holds ≡ true → version_at v.block v.line (v ∷ vs) ≡ Some v
+at_its_place v vs holds = at_head v.block v.line v vs (from_place v.block v.line v holds refl refl)
 
-nothing_left : (us : List Version) → HaveSame [] us → us ≡ []
-nothing_left [] same = refl
-nothing_left (u ∷ us) same =
-    absurd (nothing_is_some u (sym (at_none u.block u.line) ∙ same u.block u.line ∙ at_its_place u us))
+nothing_left : (us : List Version) → Each Stands us → HaveSame [] us → us ≡ []
+nothing_left [] stand same = refl
+nothing_left (u ∷ us) (holds, stand) same =
+    absurd (nothing_is_some u (sym (at_none u.block u.line) ∙ same u.block u.line ∙ at_its_place u us holds))
 
-pub permuted : (vs us : List Version) → AreApart vs → AreApart us → HaveSame vs us → IsPermutation vs us
-permuted [] us apart also same =
-    subst (λ (ws : List Version). IsPermutation [] ws) (sym (nothing_left us same)) (IsPermutation-refl [])
-permuted (v ∷ vs) us apart also same =
-    let h = holds_found v.block v.line us v (sym (same v.block v.line) ∙ at_its_place v vs) in
+pub permuted :
+    (vs us : List Version) → Each Stands vs → Each Stands us → AreApart vs → AreApart us → HaveSame vs us → IsPermutation vs us
+permuted [] us stand stand_too apart also same =
+    subst (λ (ws : List Version). IsPermutation [] ws) (sym (nothing_left us stand_too same)) (IsPermutation-refl [])
+permuted (v ∷ vs) us (holds, stand) stand_too apart also same =
+    let h = holds_found v.block v.line us v (sym (same v.block v.line) ∙ at_its_place v vs holds) in
     let also' = subst AreApart h.is also in
     let same' = subst (λ (ws : List Version). HaveSame (v ∷ vs) ws) h.is same in
     let rest =
-    permuted vs (h.before ++ h.after) (apart_rest v vs apart) (apart_without v h.before h.after also')
+    permuted vs (h.before ++ h.after) stand (each-without Stands h.before v h.after (subst (Each Stands) h.is stand_too)) (apart_rest v vs apart) (apart_without v h.before h.after also')
     (same_without v vs h.before h.after apart also' same') in
     let moved = IsPermutation-sym _ _ (IsPermutation-middle h.before v h.after) in
     subst (λ (ws : List Version). IsPermutation (v ∷ vs) ws) (sym h.is)

@@ -1,7 +1,7 @@
 -- The version at a place of a list, and how many stand there.
-use Rattle.std.proofs.Common.{◌≡◌, ℕ, ◌+◌, ◌≤◌, Bool, true, false, cond, eqb, List, [], ◌∷◌, ◌++◌, Option, Some, None, arith, refl, sym, ap, ◌∙◌, inl, inr}
+use Rattle.std.proofs.Common.{◌≡◌, ℕ, ◌+◌, ◌≤◌, Bool, true, false, ◌&&◌, cond, eqb, List, [], ◌∷◌, ◌++◌, Option, Some, None, arith, refl, sym, ap, ◌∙◌, inl, inr}
 use Rattle.std.specs.List.{filter}
-use Rattle.std.proofs.lemmas.Bool.{cases_Bool, cond_both, and_parts, and_from, eqb-true, eq-eqb}
+use Rattle.std.proofs.lemmas.Bool.{cases_Bool, cond_both, and_left, and_parts, and_right, and_from, eqb-true, eq-eqb, ne_eqb}
 use Rattle.std.proofs.lemmas.List.Sums.{sum_by-cons}
 use Rattle.row_model.specs.Versions.{Version, is_at, version_at}
 use Rattle.row_model.specs.Shown.{count_at}
@@ -26,12 +26,29 @@ the_same u v e = cc
 -- the place of a version
 pub at_place : (block line : ℕ) (v : Version) → is_at block line v ≡ true → (v.block ≡ block) × (v.line ≡ line)
 at_place block line v e =
-    let (b, l) = and_parts (eqb v.block block) (eqb v.line line) e in
+    let (holds, at) = and_parts v.holds (eqb v.block block && eqb v.line line) e in
+    let (b, l) = and_parts (eqb v.block block) (eqb v.line line) at in
     (eqb-true v.block block b, eqb-true v.line line l)
 
-pub from_place : (block line : ℕ) (v : Version) → v.block ≡ block → v.line ≡ line → is_at block line v ≡ true
-from_place block line v b l =
-    and_from (eqb v.block block) (eqb v.line line) (eq-eqb v.block block b) (eq-eqb v.line line l)
+-- it holds it
+pub at_holds : (block line : ℕ) (v : Version) → is_at block line v ≡ true → v.holds ≡ true
+at_holds block line v e = (and_parts v.holds (eqb v.block block && eqb v.line line) e).0
+
+pub from_place : (block line : ℕ) (v : Version) → v.holds ≡ true → v.block ≡ block → v.line ≡ line → is_at block line v ≡ true
+from_place block line v holds b l =
+    and_from v.holds (eqb v.block block && eqb v.line line) holds
+    (and_from (eqb v.block block) (eqb v.line line) (eq-eqb v.block block b) (eq-eqb v.line line l))
+
+-- not at another line, or in another block
+pub off_line : (block line : ℕ) (v : Version) → (v.line ≡ line → ⊥) → is_at block line v ≡ false
+off_line block line v other =
+    and_right v.holds (eqb v.block block && eqb v.line line)
+    (and_right (eqb v.block block) (eqb v.line line) (ne_eqb v.line line other))
+
+pub off_block : (block line : ℕ) (v : Version) → (v.block ≡ block → ⊥) → is_at block line v ≡ false
+off_block block line v other =
+    and_right v.holds (eqb v.block block && eqb v.line line)
+    (and_left (eqb v.block block) (eqb v.line line) (ne_eqb v.block block other))
 
 pub at_head :
     (block line : ℕ) (v : Version) (vs : List Version) → is_at block line v ≡ true → version_at block line (v ∷ vs) ≡ Some v
@@ -82,6 +99,17 @@ found_at block line (u ∷ vs) v e =
       | inr t ↦ found_at block line vs v (sym (at_rest block line u vs t) ∙ e)
     ]
 
+-- and holds it
+pub found_holds : (block line : ℕ) (vs : List Version) (v : Version) → version_at block line vs ≡ Some v → v.holds ≡ true
+found_holds block line [] v e = absurd (nothing_is_some v (sym (at_none block line) ∙ e))
+found_holds block line (u ∷ vs) v e =
+    elim (cases_Bool (is_at block line u)) [
+      | inl t ↦
+          let same : u ≡ v = the_same u v (sym (at_head block line u vs t) ∙ e) in
+          ap (λ (w : Version). w.holds) (sym same) ∙ at_holds block line u t
+      | inr t ↦ found_holds block line vs v (sym (at_rest block line u vs t) ∙ e)
+    ]
+
 -- how many stand at a place
 pub count_head :
     (block line : ℕ) (v : Version) (vs : List Version) → is_at block line v ≡ true
@@ -129,13 +157,6 @@ pub apart_rest : (v : Version) (vs : List Version) → AreApart (v ∷ vs) → A
 apart_rest v vs apart block line =
     let once = apart block line in
     omega (arith, sum_by-cons (λ (u : Version). cond (is_at block line u) 1 0) v vs)
-
-pub none_besides :
-    (v : Version) (vs : List Version) → AreApart (v ∷ vs) → version_at v.block v.line vs ≡ None
-none_besides v vs apart =
-    let once = apart v.block v.line in
-    none_counted v.block v.line vs
-    (omega (arith, count_head v.block v.line v vs (from_place v.block v.line v refl refl)))
 
 filtered_head :
     (block line : ℕ) (p : Version → Bool) (v : Version) (vs : List Version) → is_at block line v ≡ true

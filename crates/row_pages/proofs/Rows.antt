@@ -1,21 +1,24 @@
 -- The rows that a scan finds are the table's rows: they have the version of each place that is a row, and no other.
-use Rattle.std.proofs.Common.{◌≡◌, ℕ, zero, suc, ◌+◌, ◌-◌, ◌<◌, ◌≤◌, Bool, false, cond, eqb, List, [], ◌∷◌, ◌++◌, Result, Option, Some, None, arith, refl, sym, ap, ◌∙◌, subst, inl, inr}
+use Rattle.std.proofs.Common.{◌≡◌, ℕ, zero, suc, ◌+◌, ◌-◌, ◌<◌, ◌≤◌, Bool, false, cond, List, [], ◌∷◌, ◌++◌, All, Result, Option, Some, None, arith, refl, sym, ap, ◌∙◌, subst, inl, inr}
 use Rattle.std.specs.List.{filter}
-use Rattle.std.proofs.lemmas.Bool.{cases_Bool, cases_eq, cases_lt, ne_eqb, and_left, and_right}
+use Rattle.std.proofs.lemmas.Bool.{both_ways, cases_Bool, cases_eq, cases_lt, cond_both, true_from_ne_false}
+use Rattle.std.proofs.lemmas.List.Elements.{All-head, All-tail}
 use Rattle.pg_types.specs.declared.status.Unknown.{Unknown}
 use Rattle.heap_tuple.specs.declared.cell.Column.{Column}
 use Rattle.heap_page.specs.Item.{Item, unused}
 use Rattle.heap_redo.specs.Redone.{Seen, absent, bad_block, seen_page}
-use Rattle.transaction_model.specs.Transactions.{Statuses, TransactionRecord}
+use Rattle.wal_bodies.specs.declared.types.Rec.{Rec}
+use Rattle.row_model.specs.Origins.{LogOrigin, committed_in}
 use Rattle.row_model.specs.Versions.{Version, is_at, version_at}
-use Rattle.row_model.specs.Rows.{IsRows, is_row}
-use Rattle.row_model.specs.LegalRows.{ShowsPlace, ShowsBlock}
-use Rattle.row_model.specs.Shown.{ShowsTable, ShowsSeen}
-use Rattle.row_pages.specs.Pages.{values_of, SeesThem, AreScanned, ScanGivesRows}
-use Rattle.row_pages.proofs.Each.{each-weaker}
-use Rattle.row_pages.proofs.Places.{kept, first_of_two, at_head, at_none, version_at-append, version_at-filter, none_where, found_at, from_place, apart-filter}
+use Rattle.row_model.specs.Rows.{IsRows}
+use Rattle.row_model.specs.Multixacts.{multixacts}
+use Rattle.row_model.specs.Shows.{ShowsPlace, ShowsBlock}
+use Rattle.row_model.specs.Shown.{IsLost, ShowsTable, ShowsSeen}
+use Rattle.row_pages.specs.Pages.{is_row_in, values_of, SeesThem, AreScanned, ScanGivesRows}
+use Rattle.row_pages.proofs.Each.{Each, Stands, each-weaker}
+use Rattle.row_pages.proofs.Places.{kept, first_of_two, at_head, at_none, version_at-append, version_at-filter, none_where, found_at, found_holds, from_place, off_block, off_line, apart-filter}
 use Rattle.row_pages.proofs.Permuted.{HaveSame, permuted}
-use Rattle.row_pages.proofs.Found.{row_in, rows_on, rows_in, rows_below, IsOn, IsFrom, row_on, all_from, all_in_block, all_below, below_order, order_apart, block_filtered}
+use Rattle.row_pages.proofs.Found.{row_in, rows_on, rows_in, rows_below, IsOn, IsFrom, row_on, all_from, all_in_block, all_below, below_order, below_stand, order_apart, block_filtered}
 use Rattle.row_pages.proofs.Scanned.{ShowsLines, lines_rest, page_lines, block_scanned}
 
 first_alone : (o : Option Version) → first_of_two o None ≡ o
@@ -23,21 +26,21 @@ first_alone None = refl
 first_alone (Some v) = refl
 
 -- no version stands at a line without a tuple
-free_none : (s : Statuses) (log : List TransactionRecord) (o : Option Version) → ShowsPlace s log o unused → o ≡ None
-free_none s log None shows = refl
-free_none s log (Some v) (tuple, is, shown) = cc
+free_none : (origin : LogOrigin) (log : List Rec) (o : Option Version) → ShowsPlace origin log o unused → o ≡ None
+free_none origin log None shows = refl
+free_none origin log (Some v) (tuple, is, shown) = cc
 
 -- a version that stands at a place, where it passes
 alone_at :
     (test : Version → Bool) (block line : ℕ) (o : Option Version) → ((v : Version) → o ≡ Some v → IsOn block line v)
-    → version_at block line (row_in test o) ≡ kept test o
-alone_at test block line None stands = at_none block line
-alone_at test block line (Some v) stands =
+    → ((v : Version) → o ≡ Some v → Stands v) → version_at block line (row_in test o) ≡ kept test o
+alone_at test block line None stands holds = at_none block line
+alone_at test block line (Some v) stands holds =
     let (b, l) = stands v refl in
     elim (cases_Bool (test v)) [
       | inl e ↦
           ap (λ (t : Bool). version_at block line (cond t (v ∷ []) [])) e
-          ∙ at_head block line v [] (from_place block line v b l)
+          ∙ at_head block line v [] (from_place block line v (holds v refl) b l)
           ∙ ap (λ (t : Bool). cond {A = Option Version} t (Some v) None) (sym e)
       | inr e ↦
           ap (λ (t : Bool). version_at block line (cond t (v ∷ []) [])) e
@@ -47,15 +50,15 @@ alone_at test block line (Some v) stands =
 
 not_at_line : (block line other : ℕ) (v : Version) → (line ≡ other → ⊥) → IsOn block other v → is_at block line v ≡ false
 not_at_line block line other v apart (b, l) =
-    and_right (eqb v.block block) (eqb v.line line) (ne_eqb v.line line (λ e. apart (sym e ∙ l)))
+    off_line block line v (λ e. apart (sym e ∙ l))
 
 before_line : (block line from : ℕ) (v : Version) → line < from → IsFrom block from v → is_at block line v ≡ false
 before_line block line from v less (b, l) =
-    and_right (eqb v.block block) (eqb v.line line) (ne_eqb v.line line (λ e. omega arith))
+    off_line block line v (λ e. omega arith)
 
 not_in_block : (block line other : ℕ) (v : Version) → (block ≡ other → ⊥) → v.block ≡ other → is_at block line v ≡ false
 not_in_block block line other v apart b =
-    and_left (eqb v.block block) (eqb v.line line) (ne_eqb v.block block (λ e. apart (sym e ∙ b)))
+    off_block block line v (λ e. apart (sym e ∙ b))
 
 none_before :
     (test : Version → Bool) (vs : List Version) (block line from : ℕ) (items : List Item) → line < from
@@ -72,7 +75,7 @@ here_at test vs block line more none =
     version_at-append block line (row_in test (version_at block line vs)) more
     ∙ ap (first_of_two (version_at block line (row_in test (version_at block line vs)))) none
     ∙ first_alone (version_at block line (row_in test (version_at block line vs)))
-    ∙ alone_at test block line (version_at block line vs) (found_at block line vs)
+    ∙ alone_at test block line (version_at block line vs) (found_at block line vs) (found_holds block line vs)
 
 later_at :
     (test : Version → Bool) (vs : List Version) (block line first : ℕ) (more : List Version) → (line ≡ first → ⊥)
@@ -85,21 +88,21 @@ later_at test vs block line first more other =
     (λ v h. not_at_line block line first v other h) (row_on test vs block first)))
 
 none_past :
-    (s : Statuses) (log : List TransactionRecord) (vs : List Version) (block from line : ℕ)
-    → ShowsLines s log vs block from [] → from ≤ line → version_at block line vs ≡ None
-none_past s log vs block from line shows past =
+    (origin : LogOrigin) (log : List Rec) (vs : List Version) (block from line : ℕ)
+    → ShowsLines origin log vs block from [] → from ≤ line → version_at block line vs ≡ None
+none_past origin log vs block from line shows past =
     let at : from + (line - from) ≡ line = omega arith in
-    subst (λ (n : ℕ). version_at block n vs ≡ None) at (free_none s log _ (shows.each (line - from)))
+    subst (λ (n : ℕ). version_at block n vs ≡ None) at (free_none origin log _ (shows.each (line - from)))
 
 -- the rows at the lines of a page have the version of each place that is one
 on_at :
-    (s : Statuses) (log : List TransactionRecord) (test : Version → Bool) (vs : List Version) (block from line : ℕ)
-    (items : List Item) → ShowsLines s log vs block from items → from ≤ line
+    (origin : LogOrigin) (log : List Rec) (test : Version → Bool) (vs : List Version) (block from line : ℕ)
+    (items : List Item) → ShowsLines origin log vs block from items → from ≤ line
     → version_at block line (rows_on test vs block from items) ≡ kept test (version_at block line vs)
 unfolding rows_on
-on_at s log test vs block from line [] shows past =
-    at_none block line ∙ ap (kept test) (sym (none_past s log vs block from line shows past))
-on_at s log test vs block from line (item ∷ items) shows past =
+on_at origin log test vs block from line [] shows past =
+    at_none block line ∙ ap (kept test) (sym (none_past origin log vs block from line shows past))
+on_at origin log test vs block from line (item ∷ items) shows past =
     elim (cases_eq line from) [
       | inl e ↦
           subst
@@ -108,27 +111,27 @@ on_at s log test vs block from line (item ∷ items) shows past =
           (none_before test vs block from (from + 1) items (omega arith)))
       | inr other ↦
           later_at test vs block line from (rows_on test vs block (from + 1) items) other
-          ∙ on_at s log test vs block (from + 1) line items (lines_rest s log vs block from item items shows) (omega arith)
+          ∙ on_at origin log test vs block (from + 1) line items (lines_rest origin log vs block from item items shows) (omega arith)
     ]
 
 page_at :
-    (s : Statuses) (log : List TransactionRecord) (test : Version → Bool) (vs : List Version) (block line : ℕ)
-    (items : List Item) → ShowsLines s log vs block 1 items → ShowsBlock s log vs block items
+    (origin : LogOrigin) (log : List Rec) (test : Version → Bool) (vs : List Version) (block line : ℕ)
+    (items : List Item) → ShowsLines origin log vs block 1 items → ShowsBlock origin log vs block items
     → version_at block line (rows_on test vs block 1 items) ≡ kept test (version_at block line vs)
-page_at s log test vs block zero items lines shows =
-    none_before test vs block zero 1 items (omega arith) ∙ ap (kept test) (sym (free_none s log _ (shows zero)))
-page_at s log test vs block (suc n) items lines shows = on_at s log test vs block 1 (suc n) items lines (omega arith)
+page_at origin log test vs block zero items lines shows =
+    none_before test vs block zero 1 items (omega arith) ∙ ap (kept test) (sym (free_none origin log _ (shows zero)))
+page_at origin log test vs block (suc n) items lines shows = on_at origin log test vs block 1 (suc n) items lines (omega arith)
 
 seen_at :
-    (s : Statuses) (log : List TransactionRecord) (test : Version → Bool) (vs : List Version) (count : ℕ) (blocks : ℕ → Seen)
-    (block line : ℕ) (seen : Seen) → ShowsTable s log vs count blocks → ShowsSeen s log vs count block seen
+    (origin : LogOrigin) (log : List Rec) (test : Version → Bool) (vs : List Version) (count : ℕ) (blocks : ℕ → Seen)
+    (block line : ℕ) (seen : Seen) → ShowsTable origin log vs count blocks → ShowsSeen origin log vs count block seen
     → version_at block line (rows_in test vs block seen) ≡ kept test (version_at block line vs)
 unfolding rows_in
-seen_at s log test vs count blocks block line absent table (past, none) =
+seen_at origin log test vs count blocks block line absent table (past, none) =
     at_none block line ∙ ap (kept test) (sym (none line))
-seen_at s log test vs count blocks block line bad_block table shows = absurd shows
-seen_at s log test vs count blocks block line (seen_page lsn items) table (below, shows) =
-    page_at s log test vs block line items (page_lines s log vs count blocks block items table shows) shows
+seen_at origin log test vs count blocks block line bad_block table shows = absurd shows
+seen_at origin log test vs count blocks block line (seen_page lsn items) table (below, shows) =
+    page_at origin log test vs block line items (page_lines origin log vs count blocks block items table shows) shows
 
 none_below :
     (test : Version → Bool) (vs : List Version) (blocks : ℕ → Seen) (block line n : ℕ) → n ≤ block
@@ -136,7 +139,7 @@ none_below :
 none_below test vs blocks block line n past =
     none_where block line (rows_below test vs blocks n)
     (each-weaker (λ v. v.block < n) (λ v. is_at block line v ≡ false) (rows_below test vs blocks n)
-    (λ v h. and_left (eqb v.block block) (eqb v.line line) (ne_eqb v.block block (λ e. omega arith)))
+    (λ v h. off_block block line v (λ e. omega arith))
     (all_below test vs blocks n))
 
 none_in :
@@ -182,57 +185,68 @@ below_at test vs blocks block line (suc n) less own =
     ]
 
 none_after :
-    (s : Statuses) (log : List TransactionRecord) (vs : List Version) (count block line : ℕ) (seen : Seen) → count ≤ block
-    → ShowsSeen s log vs count block seen → version_at block line vs ≡ None
-none_after s log vs count block line absent past (_, none) = none line
-none_after s log vs count block line bad_block past shows = absurd shows
-none_after s log vs count block line (seen_page lsn items) past (below, shows) = absurd (omega arith)
+    (origin : LogOrigin) (log : List Rec) (vs : List Version) (count block line : ℕ) (seen : Seen) → count ≤ block
+    → ShowsSeen origin log vs count block seen → version_at block line vs ≡ None
+none_after origin log vs count block line absent past (_, none) = none line
+none_after origin log vs count block line bad_block past shows = absurd shows
+none_after origin log vs count block line (seen_page lsn items) past (below, shows) = absurd (omega arith)
 
 have_same :
-    (s : Statuses) (log : List TransactionRecord) (test : Version → Bool) (vs : List Version) (count : ℕ) (blocks : ℕ → Seen)
-    → ShowsTable s log vs count blocks → HaveSame (filter test vs) (rows_below test vs blocks count)
-have_same s log test vs count blocks table block line =
+    (origin : LogOrigin) (log : List Rec) (test : Version → Bool) (vs : List Version) (count : ℕ) (blocks : ℕ → Seen)
+    → ShowsTable origin log vs count blocks → HaveSame (filter test vs) (rows_below test vs blocks count)
+have_same origin log test vs count blocks table block line =
     version_at-filter block line test vs (table.apart block line)
     ∙ elim (cases_lt block count) [
       | inl below ↦
           sym
           (below_at test vs blocks block line count below
-          (seen_at s log test vs count blocks block line (blocks block) table (table.shows block)))
+          (seen_at origin log test vs count blocks block line (blocks block) table (table.shows block)))
       | inr past ↦
-          ap (kept test) (none_after s log vs count block line (blocks block) past (table.shows block))
+          ap (kept test) (none_after origin log vs count block line (blocks block) past (table.shows block))
           ∙ sym (none_below test vs blocks block line count past)
     ]
 
+-- what is a row holds its place
+stand_filtered :
+    (origin : LogOrigin) (log : List Rec) (vs : List Version) → All (IsLost origin log) vs → Each Stands (filter (is_row_in origin log) vs)
+stand_filtered origin log [] lost = tt
+stand_filtered origin log (v ∷ vs) lost =
+    let rest = stand_filtered origin log vs (All-tail (IsLost origin log) v vs lost) in
+    cond_both (is_row_in origin log v) (v ∷ filter (is_row_in origin log) vs) (filter (is_row_in origin log) vs) (λ us. Each Stands us)
+    (λ row. (true_from_ne_false v.holds (λ gone. both_ways (is_row_in origin log v) (All-head (IsLost origin log) v vs lost gone) row), rest))
+    (λ none. rest)
+
 are_rows :
-    (is_committed : ℕ → Bool) (s : Statuses) (log : List TransactionRecord) (vs : List Version) (count : ℕ) (blocks : ℕ → Seen)
-    → ShowsTable s log vs count blocks → IsRows is_committed vs (rows_below (is_row is_committed) vs blocks count)
-are_rows is_committed s log vs count blocks table =
-    let order = below_order (is_row is_committed) vs blocks count in
+    (origin : LogOrigin) (log : List Rec) (vs : List Version) (count : ℕ) (blocks : ℕ → Seen)
+    → ShowsTable origin log vs count blocks → IsRows (multixacts log) (committed_in origin log) vs (rows_below (is_row_in origin log) vs blocks count)
+are_rows origin log vs count blocks table =
+    let order = below_order (is_row_in origin log) vs blocks count in
     record {
       same =
-          permuted (filter (is_row is_committed) vs) (rows_below (is_row is_committed) vs blocks count)
-          (apart-filter (is_row is_committed) vs table.apart)
-          (order_apart (rows_below (is_row is_committed) vs blocks count) order)
-          (have_same s log (is_row is_committed) vs count blocks table);
+          permuted (filter (is_row_in origin log) vs) (rows_below (is_row_in origin log) vs blocks count)
+          (stand_filtered origin log vs table.lost) (below_stand (is_row_in origin log) vs blocks count)
+          (apart-filter (is_row_in origin log) vs table.apart)
+          (order_apart (rows_below (is_row_in origin log) vs blocks count) order)
+          (have_same origin log (is_row_in origin log) vs count blocks table);
       in_order = order;
     }
 
 are_scanned :
-    (is_committed : ℕ → Bool) (s : Statuses) (log : List TransactionRecord) (vs : List Version) (count : ℕ) (blocks : ℕ → Seen)
-    (columns : List Column) (sees : List ℕ → Result Bool Unknown) → ShowsTable s log vs count blocks
-    → SeesThem is_committed s log sees
-    → AreScanned columns sees count blocks (rows_below (is_row is_committed) vs blocks count)
-are_scanned is_committed s log vs count blocks columns sees table all =
+    (origin : LogOrigin) (log : List Rec) (vs : List Version) (count : ℕ) (blocks : ℕ → Seen)
+    (columns : List Column) (sees : List ℕ → Result Bool Unknown) → ShowsTable origin log vs count blocks
+    → SeesThem origin log sees
+    → AreScanned columns sees count blocks (rows_below (is_row_in origin log) vs blocks count)
+are_scanned origin log vs count blocks columns sees table all =
     record {
       each =
           λ block below.
-          block_scanned is_committed s log vs count blocks columns sees block below table all
-          ∙ ap (values_of columns) (sym (block_filtered (is_row is_committed) vs blocks count block below));
+          block_scanned origin log vs count blocks columns sees block below table all
+          ∙ ap (values_of columns) (sym (block_filtered (is_row_in origin log) vs blocks count block below));
     }
 
 pub scan_gives_rows_holds : ScanGivesRows
-scan_gives_rows_holds is_committed s log vs count blocks columns sees table all = (
-  rows_below (is_row is_committed) vs blocks count,
-  are_rows is_committed s log vs count blocks table,
-  are_scanned is_committed s log vs count blocks columns sees table all,
+scan_gives_rows_holds origin log vs count blocks columns sees table all = (
+  rows_below (is_row_in origin log) vs blocks count,
+  are_rows origin log vs count blocks table,
+  are_scanned origin log vs count blocks columns sees table all,
 )

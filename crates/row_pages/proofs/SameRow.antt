@@ -7,7 +7,7 @@ use Rattle.heap_tuple.specs.declared.cell.Cell.{Cell}
 use Rattle.heap_tuple.specs.declared.cell.Column.{Column}
 use Rattle.heap_tuple.specs.declared.values.ValueFault.{ValueFault}
 use Rattle.heap_tuple.specs.declared.values.RowFault.{RowFault}
-use Rattle.row_model.specs.LegalRows.{StoresSame}
+use Rattle.row_model.specs.Shows.{StoresSame}
 
 hoff_same : (tuple written : List ℕ) → drop 22 tuple ≡ drop 22 written → hoff_of tuple ≡ hoff_of written
 hoff_same tuple written e =

@@ -10,12 +10,12 @@ use Rattle.heap_tuple.specs.declared.values.RowFault.{RowFault}
 use Rattle.heap_page.specs.Item.{Item, unused, normal, redirect, dead, is_normal, item_in}
 use Rattle.heap_redo.specs.Redone.{Seen, absent, bad_block, seen_page}
 use Rattle.seq_scan.specs.BlockRows.{BlockRows, with_values, with_tuple, rows_from, block_rows}
-use Rattle.transaction_model.specs.Transactions.{Statuses, TransactionRecord}
+use Rattle.wal_bodies.specs.declared.types.Rec.{Rec}
+use Rattle.row_model.specs.Origins.{LogOrigin}
 use Rattle.row_model.specs.Versions.{Version, version_at}
-use Rattle.row_model.specs.Rows.{is_row}
-use Rattle.row_model.specs.LegalRows.{IsSingle, ShowsPlace, ShowsBlock}
-use Rattle.row_model.specs.Shown.{ShowsTable, ShowsSeen}
-use Rattle.row_pages.specs.Pages.{values_of, SeesThem}
+use Rattle.row_model.specs.Shows.{ShowsPlace, ShowsBlock}
+use Rattle.row_model.specs.Shown.{IsSound, ShowsTable, ShowsSeen}
+use Rattle.row_pages.specs.Pages.{is_row_in, values_of, SeesThem}
 use Rattle.row_pages.proofs.SameRow.{row_same}
 use Rattle.row_pages.proofs.Places.{found_at}
 use Rattle.row_pages.proofs.Found.{row_in, rows_on, rows_in}
@@ -51,95 +51,95 @@ valued columns test line tuple v more true here row =
 valued columns test line tuple v more false here row = refl
 
 -- what is known of the versions of a table that its blocks show, in one block from a line on
-pub record ShowsLines (s : Statuses) (log : List TransactionRecord) (vs : List Version) (block line : ℕ) (items : List Item) : Type 0 where
-  pub each : (n : ℕ) → ShowsPlace s log (version_at block (line + n) vs) (item_in items n)
-  pub single : (n : ℕ) (v : Version) → version_at block n vs ≡ Some v → IsSingle v.deleter
+pub record ShowsLines (origin : LogOrigin) (log : List Rec) (vs : List Version) (block line : ℕ) (items : List Item) : Type 0 where
+  pub each : (n : ℕ) → ShowsPlace origin log (version_at block (line + n) vs) (item_in items n)
+  pub sound : (n : ℕ) (v : Version) → version_at block n vs ≡ Some v → IsSound origin log v
   pub behind : (n : ℕ) (v : Version) → version_at block n vs ≡ Some v → 23 ≤ hoff_of v.tuple
 
 pub lines_rest :
-    (s : Statuses) (log : List TransactionRecord) (vs : List Version) (block line : ℕ) (item : Item) (items : List Item)
-    → ShowsLines s log vs block line (item ∷ items) → ShowsLines s log vs block (line + 1) items
-lines_rest s log vs block line item items shows =
+    (origin : LogOrigin) (log : List Rec) (vs : List Version) (block line : ℕ) (item : Item) (items : List Item)
+    → ShowsLines origin log vs block line (item ∷ items) → ShowsLines origin log vs block (line + 1) items
+lines_rest origin log vs block line item items shows =
     record {
       each =
           λ n.
           let at : line + suc n ≡ line + 1 + n = omega arith in
-          subst (λ (m : ℕ). ShowsPlace s log (version_at block m vs) (item_in items n)) at (shows.each (suc n));
-      single = shows.single;
+          subst (λ (m : ℕ). ShowsPlace origin log (version_at block m vs) (item_in items n)) at (shows.each (suc n));
+      sound = shows.sound;
       behind = shows.behind;
     }
 
 first_line :
-    (is_committed : ℕ → Bool) (s : Statuses) (log : List TransactionRecord) (columns : List Column)
+    (origin : LogOrigin) (log : List Rec) (columns : List Column)
     (sees : List ℕ → Result Bool Unknown) (line : ℕ) (o : Option Version) (item : Item) (items : List Item) (more : List Version)
-    → SeesThem is_committed s log sees → ShowsPlace s log o item
-    → ((v : Version) → o ≡ Some v → (v.line ≡ line) × IsSingle v.deleter × (23 ≤ hoff_of v.tuple))
+    → SeesThem origin log sees → ShowsPlace origin log o item
+    → ((v : Version) → o ≡ Some v → (v.line ≡ line) × IsSound origin log v × (23 ≤ hoff_of v.tuple))
     → rows_from columns sees (line + 1) items ≡ values_of columns more
-    → rows_from columns sees line (item ∷ items) ≡ values_of columns (row_in (is_row is_committed) o ++ more)
-first_line is_committed s log columns sees line None item items more seen shows known rest =
+    → rows_from columns sees line (item ∷ items) ≡ values_of columns (row_in (is_row_in origin log) o ++ more)
+first_line origin log columns sees line None item items more seen shows known rest =
     skipped columns sees line item items shows ∙ rest
-first_line is_committed s log columns sees line (Some v) item items more seen (tuple, is, shown) known rest =
-    let (here, single, behind) = known v refl in
+first_line origin log columns sees line (Some v) item items more seen (tuple, is, shown) known rest =
+    let (here, sound, behind) = known v refl in
     ap (λ (i : Item). rows_from columns sees line (i ∷ items)) is
     ∙ read columns sees line tuple items
     ∙ ap (λ (r : BlockRows). with_tuple columns line tuple (sees tuple) r) rest
-    ∙ ap (λ (r : Result Bool Unknown). with_tuple columns line tuple r (values_of columns more)) (seen v tuple shown single)
-    ∙ valued columns (is_row is_committed) line tuple v more (is_row is_committed v) here
+    ∙ ap (λ (r : Result Bool Unknown). with_tuple columns line tuple r (values_of columns more)) (seen v tuple shown sound)
+    ∙ valued columns (is_row_in origin log) line tuple v more (is_row_in origin log v) here
     (row_same tuple v.tuple columns shown.row behind)
 
 place_zero :
-    (s : Statuses) (log : List TransactionRecord) (vs : List Version) (block line : ℕ) (item : Item) (items : List Item)
-    → ShowsLines s log vs block line (item ∷ items) → ShowsPlace s log (version_at block line vs) item
-place_zero s log vs block line item items shows =
+    (origin : LogOrigin) (log : List Rec) (vs : List Version) (block line : ℕ) (item : Item) (items : List Item)
+    → ShowsLines origin log vs block line (item ∷ items) → ShowsPlace origin log (version_at block line vs) item
+place_zero origin log vs block line item items shows =
     let at : line + zero ≡ line = omega arith in
-    subst (λ (m : ℕ). ShowsPlace s log (version_at block m vs) item) at (shows.each zero)
+    subst (λ (m : ℕ). ShowsPlace origin log (version_at block m vs) item) at (shows.each zero)
 
 pub lines_scanned :
-    (is_committed : ℕ → Bool) (s : Statuses) (log : List TransactionRecord) (vs : List Version) (columns : List Column)
-    (sees : List ℕ → Result Bool Unknown) (block line : ℕ) (items : List Item) → SeesThem is_committed s log sees
-    → ShowsLines s log vs block line items
-    → rows_from columns sees line items ≡ values_of columns (rows_on (is_row is_committed) vs block line items)
+    (origin : LogOrigin) (log : List Rec) (vs : List Version) (columns : List Column)
+    (sees : List ℕ → Result Bool Unknown) (block line : ℕ) (items : List Item) → SeesThem origin log sees
+    → ShowsLines origin log vs block line items
+    → rows_from columns sees line items ≡ values_of columns (rows_on (is_row_in origin log) vs block line items)
 unfolding rows_on rows_from values_of
-lines_scanned is_committed s log vs columns sees block line [] seen shows = refl
-lines_scanned is_committed s log vs columns sees block line (item ∷ items) seen shows =
-    first_line is_committed s log columns sees line (version_at block line vs) item items
-    (rows_on (is_row is_committed) vs block (line + 1) items) seen (place_zero s log vs block line item items shows)
-    (λ v e. ((found_at block line vs v e).1, shows.single line v e, shows.behind line v e))
-    (lines_scanned is_committed s log vs columns sees block (line + 1) items seen
-    (lines_rest s log vs block line item items shows))
+lines_scanned origin log vs columns sees block line [] seen shows = refl
+lines_scanned origin log vs columns sees block line (item ∷ items) seen shows =
+    first_line origin log columns sees line (version_at block line vs) item items
+    (rows_on (is_row_in origin log) vs block (line + 1) items) seen (place_zero origin log vs block line item items shows)
+    (λ v e. ((found_at block line vs v e).1, shows.sound line v e, shows.behind line v e))
+    (lines_scanned origin log vs columns sees block (line + 1) items seen
+    (lines_rest origin log vs block line item items shows))
 
 -- the lines of a page are numbered from 1
 pub page_lines :
-    (s : Statuses) (log : List TransactionRecord) (vs : List Version) (count : ℕ) (blocks : ℕ → Seen) (block : ℕ)
-    (items : List Item) → ShowsTable s log vs count blocks → ShowsBlock s log vs block items
-    → ShowsLines s log vs block 1 items
-page_lines s log vs count blocks block items table shows =
+    (origin : LogOrigin) (log : List Rec) (vs : List Version) (count : ℕ) (blocks : ℕ → Seen) (block : ℕ)
+    (items : List Item) → ShowsTable origin log vs count blocks → ShowsBlock origin log vs block items
+    → ShowsLines origin log vs block 1 items
+page_lines origin log vs count blocks block items table shows =
     record {
       each =
           λ n.
           let at : suc n ≡ 1 + n = omega arith in
-          subst (λ (m : ℕ). ShowsPlace s log (version_at block m vs) (item_in items n)) at (shows (suc n));
-      single = table.single block;
+          subst (λ (m : ℕ). ShowsPlace origin log (version_at block m vs) (item_in items n)) at (shows (suc n));
+      sound = table.sound block;
       behind = table.behind_header block;
     }
 
 seen_scanned :
-    (is_committed : ℕ → Bool) (s : Statuses) (log : List TransactionRecord) (vs : List Version) (count : ℕ) (blocks : ℕ → Seen)
+    (origin : LogOrigin) (log : List Rec) (vs : List Version) (count : ℕ) (blocks : ℕ → Seen)
     (columns : List Column) (sees : List ℕ → Result Bool Unknown) (block : ℕ) (seen : Seen) → block < count
-    → ShowsTable s log vs count blocks → ShowsSeen s log vs count block seen → SeesThem is_committed s log sees
-    → block_rows columns sees seen ≡ values_of columns (rows_in (is_row is_committed) vs block seen)
+    → ShowsTable origin log vs count blocks → ShowsSeen origin log vs count block seen → SeesThem origin log sees
+    → block_rows columns sees seen ≡ values_of columns (rows_in (is_row_in origin log) vs block seen)
 unfolding block_rows rows_in
-seen_scanned is_committed s log vs count blocks columns sees block absent below table shows all =
+seen_scanned origin log vs count blocks columns sees block absent below table shows all =
     absurd (omega arith)
-seen_scanned is_committed s log vs count blocks columns sees block bad_block below table shows all = absurd shows
-seen_scanned is_committed s log vs count blocks columns sees block (seen_page lsn items) below table shows all =
-    lines_scanned is_committed s log vs columns sees block 1 items all
-    (page_lines s log vs count blocks block items table shows.1)
+seen_scanned origin log vs count blocks columns sees block bad_block below table shows all = absurd shows
+seen_scanned origin log vs count blocks columns sees block (seen_page lsn items) below table shows all =
+    lines_scanned origin log vs columns sees block 1 items all
+    (page_lines origin log vs count blocks block items table shows.1)
 
 pub block_scanned :
-    (is_committed : ℕ → Bool) (s : Statuses) (log : List TransactionRecord) (vs : List Version) (count : ℕ) (blocks : ℕ → Seen)
+    (origin : LogOrigin) (log : List Rec) (vs : List Version) (count : ℕ) (blocks : ℕ → Seen)
     (columns : List Column) (sees : List ℕ → Result Bool Unknown) (block : ℕ) → block < count
-    → ShowsTable s log vs count blocks → SeesThem is_committed s log sees
-    → block_rows columns sees (blocks block) ≡ values_of columns (rows_in (is_row is_committed) vs block (blocks block))
-block_scanned is_committed s log vs count blocks columns sees block below table all =
-    seen_scanned is_committed s log vs count blocks columns sees block (blocks block) below table (table.shows block) all
+    → ShowsTable origin log vs count blocks → SeesThem origin log sees
+    → block_rows columns sees (blocks block) ≡ values_of columns (rows_in (is_row_in origin log) vs block (blocks block))
+block_scanned origin log vs count blocks columns sees block below table all =
+    seen_scanned origin log vs count blocks columns sees block (blocks block) below table (table.shows block) all

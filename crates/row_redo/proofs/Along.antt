@@ -1,81 +1,116 @@
 -- After a legal log the blocks of a described table show its versions.
-use Rattle.std.proofs.Common.{◌≡◌, ℕ, ◌<◌, true, List, [], ◌∷◌, Some, Ok, arith, refl, sym, subst}
+use Rattle.std.proofs.Common.{◌≡◌, ℕ, ◌<◌, true, List, [], ◌∷◌, All, Option, Some, None, Result, Ok, Err, arith, refl, sym, ap, ◌∙◌, subst}
 use Rattle.std.proofs.lemmas.List.Elements.{All-head, All-tail}
+use Rattle.std.specs.Prelude.{slice_get}
 use Rattle.pg_types.specs.declared.names.Locator.{Locator}
 use Rattle.heap_page.specs.Law.{TuplesKeepRule, ZerosHaveNone}
 use Rattle.wal_bodies.specs.declared.types.Rec.{Rec}
-use Rattle.heap_redo.specs.Redone.{Seen, absent, View, redone, table_of}
-use Rattle.transaction_model.specs.Transactions.{Statuses, TransactionRecord}
-use Rattle.transaction_model.specs.LegalTransactions.{Origin, Legal}
-use Rattle.xact_redo.specs.TransactionsOf.{transaction_of, transactions_of}
-use Rattle.row_model.specs.Versions.{Version, with_steps, version_at}
-use Rattle.row_model.specs.RowSteps.{block_count, count_with, steps_of, versions}
-use Rattle.row_model.specs.LegalRows.{RecordFits, LegalTable, AreWellFormed, TableRule, are_apart}
-use Rattle.row_redo.specs.Shown.{Redoes, BlocksShowVersions}
-use Rattle.row_redo.proofs.Apart.{steps_apart, steps_single}
+use Rattle.heap_redo.specs.declared.fault.RedoFault.{RedoFault}
+use Rattle.heap_redo.specs.Redone.{Seen, absent, View, Outcome, redone, table_of, view_outcome}
+use Rattle.transaction_model.specs.LegalTransactions.{Legal}
+use Rattle.xact_redo.specs.TransactionsOf.{transactions_of}
+use Rattle.row_model.specs.Versions.{RowStep, Version, with_steps, version_at}
+use Rattle.row_model.specs.Origins.{BeginsEmpty, LogOrigin, TableOrigin}
+use Rattle.row_model.specs.RowSteps.{block_count, blocks_of, count_with, steps_of, versions, view_after, view_before, view_with_record}
+use Rattle.row_model.specs.LegalRows.{LegalAlong, RecordFits, TableRule, are_apart}
+use Rattle.row_redo.specs.Shown.{BlocksShowVersions, Rises, last_end}
+use Rattle.row_redo.proofs.Apart.{all_lost_later, all_sound_later, steps_apart, steps_lost, steps_sound}
+use Rattle.row_redo.proofs.Rules.{StepsRule, rules_of}
 use Rattle.row_redo.proofs.Tables.{legal_rows}
 use Rattle.row_redo.proofs.Standing.{Holds, Standing, holds_until, holds_behind, holds_later, standing_shows}
 use Rattle.row_redo.proofs.Walk.{walk}
 
--- before any record a table has no blocks
-no_blocks :
-    (s : Statuses) (log : List TransactionRecord) (locator : Locator) (at : ℕ) (blocks : ℕ → Seen)
-    → ((block : ℕ) → blocks block ≡ absent) → Standing s log (versions locator []) (block_count locator []) at blocks
-unfolding versions block_count version_at
-no_blocks s log locator at blocks none =
+-- a table without blocks and versions
+none_standing :
+    (from : LogOrigin) (log : List Rec) (at : ℕ) (blocks : ℕ → Seen) → ((block : ℕ) → blocks block ≡ absent)
+    → Standing from log [] 0 at blocks
+unfolding version_at
+none_standing from log at blocks none =
     record {
-      holds = λ block. subst (λ (found : Seen). Holds s log [] 0 at block found) (sym (none block)) (omega arith, λ line. refl);
+      holds = λ block. subst (λ (found : Seen). Holds from log [] 0 at block found) (sym (none block)) (omega arith, λ line. refl);
       apart = λ block line. omega arith;
-      single = λ block line v e. cc;
+      sound = λ block line v e. cc;
+      lost = tt;
     }
 
-module _ (keep : TuplesKeepRule) (no_items : ZerosHaveNone) (o : Origin) (known : List Locator) (locator : Locator) (table : ℕ)
-    (here : table_of known locator ≡ Some table) where
+no_blocks :
+    (from : LogOrigin) (log : List Rec) (vs : List Version) (count at : ℕ) (blocks : ℕ → Seen) → vs ≡ [] → count ≡ 0
+    → ((block : ℕ) → blocks block ≡ absent) → Standing from log vs count at blocks
+no_blocks from log vs count at blocks empty zero none =
+    subst (λ (n : ℕ). Standing from log vs n at blocks) (sym zero)
+    (subst (λ (l : List Version). Standing from log l 0 at blocks) (sym empty) (none_standing from log at blocks none))
+
+-- an origin that is empty has no blocks
+absent_before : (from : LogOrigin) → BeginsEmpty from → (table : Option Locator) (block : ℕ) → blocks_of from table block ≡ absent
+absent_before from empty None block = refl
+absent_before from empty (Some table) block = ap (λ (t : TableOrigin). t.blocks block) (empty.tables table)
+
+-- redo of a record that was not refused
+outcome_ok : (out : Outcome) (view : View) → view_outcome out.0 out.1 ≡ Ok view → out ≡ (view, Ok tt)
+outcome_ok (was, Ok done) view e = let same : was ≡ view = cc in ap (λ (v : View). (v, Ok tt)) same
+outcome_ok (was, Err fault) view e = cc
+
+record_done :
+    (rec : Rec) (known : List Locator) (r : Result View RedoFault) (view : View) → view_with_record rec known r ≡ Ok view
+    → (was : View) × (r ≡ Ok was) × (redone rec known rec.blocks was ≡ (view, Ok tt))
+unfolding view_with_record
+record_done rec known (Err fault) view e = cc
+record_done rec known (Ok was) view e = (was, refl, outcome_ok (redone rec known rec.blocks was) view e)
+
+module _ (keep : TuplesKeepRule) (no_items : ZerosHaveNone) (from : LogOrigin) (empty : BeginsEmpty from) (known : List Locator)
+    (locator : Locator) (table : ℕ) (here : table_of known locator ≡ Some table) where
   -- one record more
   one_more :
-      (rec : Rec) (older : List Rec) (was view : View) (before : ℕ) → Legal o (transactions_of (rec ∷ older)) → RecordFits rec
-      → are_apart rec.blocks ≡ true
-      → TableRule o.at (transactions_of older) locator (block_count locator older) (versions locator older) rec
-      → Standing o.at (transactions_of older) (versions locator older) (block_count locator older) before (was table)
-      → redone rec known rec.blocks was ≡ (view, Ok tt) → before < rec.end.0
-      → Standing o.at (transactions_of (rec ∷ older)) (versions locator (rec ∷ older)) (block_count locator (rec ∷ older)) rec.end.0
-      (view table)
+      (rec : Rec) (older : List Rec) (was view : View) → Legal from.transactions (transactions_of (rec ∷ older)) → RecordFits rec
+      → are_apart rec.blocks ≡ true → TableRule from locator older rec
+      → Standing from older (versions from locator older) (block_count from locator older) (last_end older) (was table)
+      → redone rec known rec.blocks was ≡ (view, Ok tt) → last_end older < rec.end.0
+      → Standing from (rec ∷ older) (versions from locator (rec ∷ older)) (block_count from locator (rec ∷ older)) rec.end.0 (view table)
   unfolding versions block_count
-  one_more rec older was view before legal fits apart rule standing done less =
-      let log : List TransactionRecord = transactions_of older in
-      let count : ℕ = block_count locator older in
-      let vs : List Version = versions locator older in
-      let last : List Version = with_steps vs (steps_of rec locator count vs) in
-      let stage = walk keep no_items o.at log rec known locator table here (omega arith) count vs last fits rec.blocks was view vs count
-      apart fits.blocks rule.steps refl rule.blocks
+  one_more rec older was view legal fits apart rule standing done less =
+      let before : ℕ = last_end older in
+      let count : ℕ = block_count from locator older in
+      let vs : List Version = versions from locator older in
+      let steps : List RowStep = steps_of rec locator count vs in
+      let last : List Version = with_steps vs steps in
+      let rules : StepsRule from older vs steps =
+      rules_of from locator older 0 vs steps rule.births rule.deleters rule.removals rule.multixacts in
+      let stage = walk keep no_items from older rec known locator table here (omega arith) count vs last fits rec.blocks was view vs count
+      apart fits.blocks rules refl rule.blocks
       (record {
-        holds = λ b. holds_until o.at log vs count before rec.end.0 b (was table b) less (standing.holds b);
-        behind = λ b comes. holds_behind o.at log vs count before rec.end.0 b (was table b) less (standing.holds b);
+        holds = λ b. holds_until from older vs count before rec.end.0 b (was table b) less (standing.holds b);
+        behind = λ b comes. holds_behind from older vs count before rec.end.0 b (was table b) less (standing.holds b);
         same = λ b comes line. refl;
       }) done in
       record {
         holds = λ b.
-            holds_later o (transaction_of rec) log legal last (count_with rec locator count rec.blocks) rec.end.0 b (view table b) (stage.holds b);
-        apart = steps_apart o.at log (steps_of rec locator count vs) vs rule.steps standing.apart;
-        single = steps_single o.at log (steps_of rec locator count vs) vs rule.steps standing.single;
+            holds_later from rec older legal last (count_with rec locator count rec.blocks) rec.end.0 b (view table b) (stage.holds b);
+        apart = steps_apart from older steps vs rules standing.apart;
+        sound = all_sound_later from rec older legal last (steps_sound from older steps vs rules standing.sound);
+        lost = all_lost_later from rec older legal last (steps_lost from older steps vs rules standing.apart standing.lost);
       }
 
   -- all records
   along :
-      (log : List Rec) (view : View) (at : ℕ) → Legal o (transactions_of log) → AreWellFormed log → LegalTable o.at locator log
-      → Redoes known log view at
-      → Standing o.at (transactions_of log) (versions locator log) (block_count locator log) at (view table)
-  unfolding Legal
-  along [] view at legal formed rows none = no_blocks o.at [] locator at (view table) (none table)
-  along (rec ∷ older) view at (rule, legal) formed (table_rule, rows) (was, before, redoes, done, less, end) =
-      let (fits, apart) = All-head (λ (r : Rec). RecordFits r × (are_apart r.blocks ≡ true)) rec older formed in
-      let rest : AreWellFormed older = All-tail (λ (r : Rec). RecordFits r × (are_apart r.blocks ≡ true)) rec older formed in
-      subst (λ (n : ℕ). Standing o.at (transactions_of (rec ∷ older)) (versions locator (rec ∷ older)) (block_count locator (rec ∷ older)) n (view table))
-      (sym end)
-      (one_more rec older was view before (rule, legal) fits apart table_rule (along older was before legal rest rows redoes) done less)
+      (log : List Rec) (view : View) → Legal from.transactions (transactions_of log) → All (λ (r : Rec). are_apart r.blocks ≡ true) log
+      → All RecordFits log → Rises log → LegalAlong from locator log → view_after from known log ≡ Ok view
+      → Standing from log (versions from locator log) (block_count from locator log) (last_end log) (view table)
+  unfolding Legal versions block_count view_after
+  along [] view legal apart fits rises rules done =
+      let same : view_before from known ≡ view = cc in
+      no_blocks from [] (from.tables locator).versions (from.tables locator).count 0 (view table)
+      (ap (λ (t : TableOrigin). t.versions) (empty.tables locator))
+      (ap (λ (t : TableOrigin). t.count) (empty.tables locator))
+      (λ block. sym (ap (λ (v : View). v table block) same) ∙ absent_before from empty (slice_get known table) block)
+  along (rec ∷ older) view (rule, legal) apart fits (less, rises) (table_rule, rules) done =
+      let (was, before, redo) = record_done rec known (view_after from known older) view done in
+      one_more rec older was view (rule, legal) (All-head RecordFits rec older fits)
+      (All-head (λ (r : Rec). are_apart r.blocks ≡ true) rec older apart) table_rule
+      (along older was legal (All-tail (λ (r : Rec). are_apart r.blocks ≡ true) rec older apart) (All-tail RecordFits rec older fits) rises rules before)
+      redo less
 
 pub blocks_show : TuplesKeepRule → ZerosHaveNone → BlocksShowVersions
-blocks_show keep no_items o known log view at table locator here legal redoes =
-    standing_shows o.at (transactions_of log) (versions locator log) (block_count locator log) at (view table)
-    (along keep no_items o known locator table here log view at legal.transactions legal.well_formed
-    (legal_rows known locator table here o.at log legal.rows) redoes)
+blocks_show keep no_items from known log view table locator here empty legal rises fits done =
+    standing_shows from log (versions from locator log) (block_count from locator log) (last_end log) (view table)
+    (along keep no_items from empty known locator table here log view legal.transactions legal.apart fits rises
+    (legal_rows known locator table here from log legal.rows).along done)

@@ -4,7 +4,7 @@ use Rattle.std.proofs.lemmas.Bool.{false≢true}
 use Rattle.std.proofs.lemmas.List.Elements.{All-append, All-drop, All-nil, All-take}
 use Rattle.heap_tuple.specs.Tuple.{IsTuple, hoff_of}
 use Rattle.heap_page.specs.Item.{Item, normal, numbered, is_normal, tuple_in}
-use Rattle.transaction_model.specs.Transactions.{Statuses, TransactionRecord}
+use Rattle.row_model.specs.Origins.{LogOrigin}
 use Rattle.wal_record.specs.declared.new.NewImage.{NewImage}
 use Rattle.wal_bodies.specs.declared.types.NewTuple.{NewTuple}
 use Rattle.wal_bodies.specs.declared.types.RecBlock.{RecBlock}
@@ -16,15 +16,17 @@ use Rattle.wal_bodies.specs.Heads.{Head, marked, deleted, replaced, locked}
 use Rattle.wal_bodies.specs.After.{BlockRefusal, no_tuple, ◌>>=◌, applied, put, put_listed, put_version, change_head, tuple_of, joined, user_data, is_short, update_old, update_within, update, number_of, changed}
 use Rattle.row_model.specs.Versions.{Version, RowStep, Born, Deleter, Undone, version_at, with_step, with_steps}
 use Rattle.row_model.specs.RowSteps.{deleter_of_mark, births_written, births, version_written, version_put, values_of, update_steps, own_steps}
-use Rattle.row_model.specs.LegalRows.{AreBytes, TupleFits, BlockFits, KindFits, RecordFits, ShowsPlace, ShowsBlock, StepsRule}
+use Rattle.row_model.specs.Shows.{ShowsPlace, ShowsBlock}
+use Rattle.row_model.specs.LegalRows.{AreBytes, TupleFits, BlockFits, KindFits, RecordFits}
+use Rattle.row_redo.proofs.Rules.{StepsRule}
 use Rattle.row_redo.proofs.Fitting.{TuplesFit}
 use Rattle.row_redo.proofs.Heads.{head-bytes, same-values, Marks, marks-marked, marks-replaced, marks-locked, marks-deleted}
 use Rattle.row_redo.proofs.OneLine.{change-done}
 use Rattle.row_redo.proofs.OneStep.{born-shown, deleter-shown, undone-shown, pointed-shown}
 
 -- a block shows these versions, and its tuples fit
-abbrev pub Shown : Statuses → List TransactionRecord → List Version → ℕ → List Item → Type 0
-Shown s log vs block items = ShowsBlock s log vs block items × TuplesFit items
+abbrev pub Shown : LogOrigin → List Rec → List Version → ℕ → List Item → Type 0
+Shown from log vs block items = ShowsBlock from log vs block items × TuplesFit items
 
 -- a written tuple is bytes
 tuple-bytes :
@@ -73,40 +75,40 @@ both-done (Err refusal) next after e = absurd (cc)
 
 -- tuples are put one after the other
 listed-shown :
-    (s : Statuses) (log : List TransactionRecord) (vs : List Version) (xid block : ℕ) (lines : List ℕ) (tuples : List NewTuple)
-    (items after : List Item) → All TupleFits tuples → StepsRule s log vs (births_written xid block lines tuples)
-    → Shown s log vs block items → put_listed xid block lines tuples items ≡ Ok after
-    → Shown s log (with_steps vs (births_written xid block lines tuples)) block after
+    (from : LogOrigin) (log : List Rec) (vs : List Version) (xid block : ℕ) (lines : List ℕ) (tuples : List NewTuple)
+    (items after : List Item) → All TupleFits tuples → StepsRule from log vs (births_written xid block lines tuples)
+    → Shown from log vs block items → put_listed xid block lines tuples items ≡ Ok after
+    → Shown from log (with_steps vs (births_written xid block lines tuples)) block after
 unfolding births_written put_listed with_steps
-listed-shown s log vs xid block [] tuples items after fits rule shown e = subst (Shown s log vs block) (cc) shown
-listed-shown s log vs xid block (line ∷ lines) [] items after fits rule shown e = subst (Shown s log vs block) (cc) shown
-listed-shown s log vs xid block (line ∷ lines) (tuple ∷ tuples) items after fits (rule, rules) (shows, fit) e =
+listed-shown from log vs xid block [] tuples items after fits rule shown e = subst (Shown from log vs block) (cc) shown
+listed-shown from log vs xid block (line ∷ lines) [] items after fits rule shown e = subst (Shown from log vs block) (cc) shown
+listed-shown from log vs xid block (line ∷ lines) (tuple ∷ tuples) items after fits (rule, rules) (shows, fit) e =
     let new = tuple_of xid 0 block line tuple tuple.rest in
     let (next, first, rest) = both-done (put line new items) (put_listed xid block lines tuples) after e in
     let one = first-of TupleFits tuple tuples fits in
-    let step = born-shown s log vs block line new items next rule (tuple-bytes xid 0 block line tuple tuple.rest one one.rest) fit shows first in
-    listed-shown s log (with_step vs (Born block line new)) xid block lines tuples next after (rest-of TupleFits tuple tuples fits) rules step rest
+    let step = born-shown from log vs block line new items next rule (tuple-bytes xid 0 block line tuple tuple.rest one one.rest) fit shows first in
+    listed-shown from log (with_step vs (Born false block line new)) xid block lines tuples next after (rest-of TupleFits tuple tuples fits) rules step rest
 
 -- the new version of an update is put
 version-shown :
-    (s : Statuses) (log : List TransactionRecord) (vs : List Version) (rec : Rec) (block : RecBlock) (xmax line : ℕ) (old : List ℕ)
+    (from : LogOrigin) (log : List Rec) (vs : List Version) (rec : Rec) (block : RecBlock) (xmax line : ℕ) (old : List ℕ)
     (tuples : List NewTuple) (items after : List Item) → All TupleFits tuples → AreBytes old
-    → StepsRule s log vs (version_written rec block xmax line old tuples) → Shown s log vs block.block items
+    → StepsRule from log vs (version_written rec block xmax line old tuples) → Shown from log vs block.block items
     → put_version rec.head.xid.0 xmax block.block line tuples old items ≡ Ok after
-    → Shown s log (with_steps vs (version_written rec block xmax line old tuples)) block.block after
+    → Shown from log (with_steps vs (version_written rec block xmax line old tuples)) block.block after
 unfolding version_written put_version with_steps
-version-shown s log vs rec block xmax line old [] items after fits bytes rule shown e = subst (Shown s log vs block.block) (cc) shown
-version-shown s log vs rec block xmax line old (tuple ∷ tuples) items after fits bytes (rule, rules) (shows, fit) e =
+version-shown from log vs rec block xmax line old [] items after fits bytes rule shown e = subst (Shown from log vs block.block) (cc) shown
+version-shown from log vs rec block xmax line old (tuple ∷ tuples) items after fits bytes (rule, rules) (shows, fit) e =
     let one = first-of TupleFits tuple tuples fits in
-    born-shown s log vs block.block line (tuple_of rec.head.xid.0 xmax block.block line tuple (joined tuple old)) items after rule
+    born-shown from log vs block.block line (tuple_of rec.head.xid.0 xmax block.block line tuple (joined tuple old)) items after rule
     (tuple-bytes rec.head.xid.0 xmax block.block line tuple (joined tuple old) one (joined-bytes tuple old one bytes)) fit shows e
 
 -- the values of a line's tuple are those of the version that it shows
 old-values :
-    (s : Statuses) (log : List TransactionRecord) (o : Option Version) (item : Item) (tuple : List ℕ) → item ≡ normal tuple
-    → IsTuple tuple → ShowsPlace s log o item → user_data (tuple_in item) ≡ values_of o
-old-values s log None item tuple was rule shows = absurd (false≢true (sym shows ∙ ap is_normal was))
-old-values s log (Some v) item tuple was rule (own, is, shows) =
+    (from : LogOrigin) (log : List Rec) (o : Option Version) (item : Item) (tuple : List ℕ) → item ≡ normal tuple
+    → IsTuple tuple → ShowsPlace from log o item → user_data (tuple_in item) ≡ values_of o
+old-values from log None item tuple was rule shows = absurd (false≢true (sym shows ∙ ap is_normal was))
+old-values from log (Some v) item tuple was rule (own, is, shows) =
     let same : own ≡ tuple = ap tuple_in (sym is ∙ was) in
     let good : IsTuple own = subst IsTuple (sym same) rule in
     ap (λ i. user_data (tuple_in i)) is ∙ same-values own v.tuple good shows.row.bytes
@@ -118,16 +120,16 @@ unless false refusal result after e = e
 
 -- an update within one block: the old version gets its deleter, and the new one is put
 within-shown :
-    (s : Statuses) (log : List TransactionRecord) (vs : List Version) (rec : Rec) (block : RecBlock) (is_hot : Bool)
+    (from : LogOrigin) (log : List Rec) (vs : List Version) (rec : Rec) (block : RecBlock) (is_hot : Bool)
     (old_xmax old_line old_bits new_xmax new_line : ℕ) (items after : List Item) → All TupleFits block.tuples → old_xmax < 2 ^ 32
-    → StepsRule s log vs (Deleter block.block old_line (deleter_of_mark old_xmax old_bits)
+    → StepsRule from log vs (Deleter block.block old_line (deleter_of_mark old_xmax old_bits)
     ∷ version_written rec block new_xmax new_line (values_of (version_at block.block old_line vs)) block.tuples)
-    → Shown s log vs block.block items
+    → Shown from log vs block.block items
     → update_within rec block is_hot old_xmax old_line old_bits new_xmax new_line items ≡ Ok after
-    → Shown s log (with_steps vs (Deleter block.block old_line (deleter_of_mark old_xmax old_bits)
+    → Shown from log (with_steps vs (Deleter block.block old_line (deleter_of_mark old_xmax old_bits)
     ∷ version_written rec block new_xmax new_line (values_of (version_at block.block old_line vs)) block.tuples)) block.block after
 unfolding update_within update_old with_steps
-within-shown s log vs rec block is_hot old_xmax old_line old_bits new_xmax new_line items after fits small (rule, rules) (shows, fit) e =
+within-shown from log vs rec block is_hot old_xmax old_line old_bits new_xmax new_line items after fits small (rule, rules) (shows, fit) e =
     let old = user_data (tuple_in (numbered items old_line)) in
     let mark = λ (head : Head). replaced old_xmax old_bits is_hot block.block new_line head in
     let put_new = λ (next : List Item). if is_short block.tuples old then Err (no_tuple old_line)
@@ -137,22 +139,22 @@ within-shown s log vs rec block is_hot old_xmax old_line old_bits new_xmax new_l
     (put_version rec.head.xid.0 new_xmax block.block new_line block.tuples old next) after rest in
     let done = change-done old_line mark items next first in
     let (bytes, good) = fit old_line done.tuple done.was in
-    let values = old-values s log (version_at block.block old_line vs) (numbered items old_line) done.tuple done.was good (shows old_line) in
+    let values = old-values from log (version_at block.block old_line vs) (numbered items old_line) done.tuple done.was good (shows old_line) in
     let old_bytes : AreBytes old = subst (λ (i : Item). AreBytes (user_data (tuple_in i))) (sym done.was) (All-drop (λ (byte : ℕ). byte < 256) (hoff_of done.tuple) done.tuple bytes) in
-    let step = deleter-shown s log vs block.block old_line mark old_xmax old_bits items next small
+    let step = deleter-shown from log vs block.block old_line mark old_xmax old_bits items next small
     (λ head. marks-replaced old_xmax old_bits is_hot block.block new_line head) fit shows first in
     let then_vs = with_step vs (Deleter block.block old_line (deleter_of_mark old_xmax old_bits)) in
-    subst (λ (o : List ℕ). Shown s log (with_steps then_vs (version_written rec block new_xmax new_line o block.tuples)) block.block after) values
-    (version-shown s log then_vs rec block new_xmax new_line old block.tuples next after fits old_bytes
-    (subst (λ (o : List ℕ). StepsRule s log then_vs (version_written rec block new_xmax new_line o block.tuples)) (sym values) rules) step put_ok)
+    subst (λ (o : List ℕ). Shown from log (with_steps then_vs (version_written rec block new_xmax new_line o block.tuples)) block.block after) values
+    (version-shown from log then_vs rec block new_xmax new_line old block.tuples next after fits old_bytes
+    (subst (λ (o : List ℕ). StepsRule from log then_vs (version_written rec block new_xmax new_line o block.tuples)) (sym values) rules) step put_ok)
 
 -- the same for steps that are equal to these
 along :
-    (s : Statuses) (log : List TransactionRecord) (vs : List Version) (block : ℕ) (after : List Item) (steps others : List RowStep)
-    → steps ≡ others → (StepsRule s log vs others → Shown s log (with_steps vs others) block after) → StepsRule s log vs steps
-    → Shown s log (with_steps vs steps) block after
-along s log vs block after steps others e done rule =
-    subst (λ (l : List RowStep). Shown s log (with_steps vs l) block after) (sym e) (done (subst (StepsRule s log vs) e rule))
+    (from : LogOrigin) (log : List Rec) (vs : List Version) (block : ℕ) (after : List Item) (steps others : List RowStep)
+    → steps ≡ others → (StepsRule from log vs others → Shown from log (with_steps vs others) block after) → StepsRule from log vs steps
+    → Shown from log (with_steps vs steps) block after
+along from log vs block after steps others e done rule =
+    subst (λ (l : List RowStep). Shown from log (with_steps vs l) block after) (sym e) (done (subst (StepsRule from log vs) e rule))
 
 -- the steps where no image is restored
 births-none : (rec : Rec) (block : RecBlock) (image : Option NewImage) (lines : List ℕ) → image ≡ None → births rec block image lines ≡ births_written rec.head.xid.0 block.block lines block.tuples
@@ -165,31 +167,31 @@ put-none :
 unfolding version_put
 put-none rec block image xmax line old none = rw none refl
 
-module _ (s : Statuses) (log : List TransactionRecord) (vs : List Version) (rec : Rec) (block : RecBlock) (items after : List Item) (fits : All TupleFits block.tuples) (none : applied block.image ≡ None) (shown : Shown s log vs block.block items) where
+module _ (from : LogOrigin) (log : List Rec) (vs : List Version) (rec : Rec) (block : RecBlock) (items after : List Item) (fits : All TupleFits block.tuples) (none : applied block.image ≡ None) (shown : Shown from log vs block.block items) where
   births-shown :
       (lines : List ℕ) → put_listed rec.head.xid.0 block.block lines block.tuples items ≡ Ok after
-      → StepsRule s log vs (births rec block (applied block.image) lines)
-      → Shown s log (with_steps vs (births rec block (applied block.image) lines)) block.block after
+      → StepsRule from log vs (births rec block (applied block.image) lines)
+      → Shown from log (with_steps vs (births rec block (applied block.image) lines)) block.block after
   births-shown lines e rule =
-      along s log vs block.block after (births rec block (applied block.image) lines) (births_written rec.head.xid.0 block.block lines block.tuples)
+      along from log vs block.block after (births rec block (applied block.image) lines) (births_written rec.head.xid.0 block.block lines block.tuples)
       (births-none rec block (applied block.image) lines none)
-      (λ r. listed-shown s log vs rec.head.xid.0 block.block lines block.tuples items after fits r shown e) rule
+      (λ r. listed-shown from log vs rec.head.xid.0 block.block lines block.tuples items after fits r shown e) rule
 
   head-changed :
       (line xmax bits : ℕ) (f : Head → Head) → xmax < 2 ^ 32 → ((head : Head) → Marks head.xmin xmax bits head (f head))
       → change_head line f items ≡ Ok after
-      → Shown s log (with_steps vs (Deleter block.block line (deleter_of_mark xmax bits) ∷ [])) block.block after
+      → Shown from log (with_steps vs (Deleter block.block line (deleter_of_mark xmax bits) ∷ [])) block.block after
   unfolding with_steps
-  head-changed line xmax bits f small marks e = deleter-shown s log vs block.block line f xmax bits items after small marks shown.1 shown.0 e
+  head-changed line xmax bits f small marks e = deleter-shown from log vs block.block line f xmax bits items after small marks shown.1 shown.0 e
 
   deletion-shown :
       (xmax line bits flags : ℕ) (super : Bool) → xmax < 2 ^ 32 → has flags 0x08 ≡ super
-      → StepsRule s log vs (if super then Undone block.block line ∷ [] else Deleter block.block line (deleter_of_mark xmax bits) ∷ [])
+      → StepsRule from log vs (if super then Undone block.block line ∷ [] else Deleter block.block line (deleter_of_mark xmax bits) ∷ [])
       → change_head line (λ head. deleted xmax bits flags block.block line head) items ≡ Ok after
-      → Shown s log (with_steps vs (if super then Undone block.block line ∷ [] else Deleter block.block line (deleter_of_mark xmax bits) ∷ [])) block.block after
+      → Shown from log (with_steps vs (if super then Undone block.block line ∷ [] else Deleter block.block line (deleter_of_mark xmax bits) ∷ [])) block.block after
   unfolding with_steps
   deletion-shown xmax line bits flags true small is (rule, rules) e =
-      undone-shown s log vs block.block line xmax bits flags items after is rule shown.1 shown.0 e
+      undone-shown from log vs block.block line xmax bits flags items after is shown.1 shown.0 e
   deletion-shown xmax line bits flags false small is rule e =
       head-changed line xmax bits (λ head. deleted xmax bits flags block.block line head) small
       (λ head. marks-deleted xmax bits flags block.block line head is) e
@@ -197,16 +199,16 @@ module _ (s : Statuses) (log : List TransactionRecord) (vs : List Version) (rec 
   -- of an update over two blocks, the block of the new version, and that of the old one
   two-shown :
       (old_xmax old_line old_bits new_xmax new_line new_block : ℕ) (is_new : Bool) → old_xmax < 2 ^ 32
-      → StepsRule s log vs (if is_new then version_put rec block (applied block.image) new_xmax new_line [] else Deleter block.block old_line (deleter_of_mark old_xmax old_bits) ∷ [])
+      → StepsRule from log vs (if is_new then version_put rec block (applied block.image) new_xmax new_line [] else Deleter block.block old_line (deleter_of_mark old_xmax old_bits) ∷ [])
       → (if is_new then put_version rec.head.xid.0 new_xmax block.block new_line block.tuples [] items
       else update_old (bit_and rec.head.info 0x70 == 0x40) old_xmax old_line old_bits new_block new_line items) ≡ Ok after
-      → Shown s log (with_steps vs (if is_new then version_put rec block (applied block.image) new_xmax new_line [] else Deleter block.block old_line (deleter_of_mark old_xmax old_bits) ∷ [])) block.block after
+      → Shown from log (with_steps vs (if is_new then version_put rec block (applied block.image) new_xmax new_line [] else Deleter block.block old_line (deleter_of_mark old_xmax old_bits) ∷ [])) block.block after
   unfolding update_old
   two-shown old_xmax old_line old_bits new_xmax new_line new_block true small rule e =
-      along s log vs block.block after (version_put rec block (applied block.image) new_xmax new_line [])
+      along from log vs block.block after (version_put rec block (applied block.image) new_xmax new_line [])
       (version_written rec block new_xmax new_line [] block.tuples)
       (put-none rec block (applied block.image) new_xmax new_line [] none)
-      (λ r. version-shown s log vs rec block new_xmax new_line [] block.tuples items after fits (All-nil (λ (byte : ℕ). byte < 256)) r shown e) rule
+      (λ r. version-shown from log vs rec block new_xmax new_line [] block.tuples items after fits (All-nil (λ (byte : ℕ). byte < 256)) r shown e) rule
   two-shown old_xmax old_line old_bits new_xmax new_line new_block false small rule e =
       let is_hot = bit_and rec.head.info 0x70 == 0x40 in
       head-changed old_line old_xmax old_bits (λ head. replaced old_xmax old_bits is_hot new_block new_line head) small
@@ -214,9 +216,9 @@ module _ (s : Statuses) (log : List TransactionRecord) (vs : List Version) (rec 
 
   update-shown :
       (old_xmax old_line old_bits new_xmax new_line : ℕ) (new_block old_block : Option ℕ) → old_xmax < 2 ^ 32
-      → StepsRule s log vs (update_steps rec block old_xmax old_line old_bits new_xmax new_line new_block old_block vs)
+      → StepsRule from log vs (update_steps rec block old_xmax old_line old_bits new_xmax new_line new_block old_block vs)
       → update rec block old_xmax old_line old_bits new_xmax new_line new_block old_block items ≡ Ok after
-      → Shown s log (with_steps vs (update_steps rec block old_xmax old_line old_bits new_xmax new_line new_block old_block vs)) block.block after
+      → Shown from log (with_steps vs (update_steps rec block old_xmax old_line old_bits new_xmax new_line new_block old_block vs)) block.block after
   unfolding update_steps update with_steps
   update-shown old_xmax old_line old_bits new_xmax new_line (Some new_block) (Some old_block) small rule e =
       two-shown old_xmax old_line old_bits new_xmax new_line new_block (block.id == 0) small rule e
@@ -224,15 +226,15 @@ module _ (s : Statuses) (log : List TransactionRecord) (vs : List Version) (rec 
       let is_hot = bit_and rec.head.info 0x70 == 0x40 in
       let old = values_of (version_at block.block old_line vs) in
       let step = Deleter block.block old_line (deleter_of_mark old_xmax old_bits) in
-      along s log vs block.block after (step ∷ version_put rec block (applied block.image) new_xmax new_line old)
+      along from log vs block.block after (step ∷ version_put rec block (applied block.image) new_xmax new_line old)
       (step ∷ version_written rec block new_xmax new_line old block.tuples)
       (ap (λ l. step ∷ l) (put-none rec block (applied block.image) new_xmax new_line old none))
-      (λ r. within-shown s log vs rec block is_hot old_xmax old_line old_bits new_xmax new_line items after fits small r shown e) rule
-  update-shown old_xmax old_line old_bits new_xmax new_line None old_block small rule e = subst (Shown s log vs block.block) (cc) shown
+      (λ r. within-shown from log vs rec block is_hot old_xmax old_line old_bits new_xmax new_line items after fits small r shown e) rule
+  update-shown old_xmax old_line old_bits new_xmax new_line None old_block small rule e = subst (Shown from log vs block.block) (cc) shown
 
   kind-shown :
-      (kind : RecKind) → KindFits kind → StepsRule s log vs (own_steps rec block kind vs) → changed rec block kind items ≡ Ok after
-      → Shown s log (with_steps vs (own_steps rec block kind vs)) block.block after
+      (kind : RecKind) → KindFits kind → StepsRule from log vs (own_steps rec block kind vs) → changed rec block kind items ≡ Ok after
+      → Shown from log (with_steps vs (own_steps rec block kind vs)) block.block after
   unfolding own_steps changed with_steps
   kind-shown (Insert line flags) f rule e = births-shown (line ∷ []) e rule
   kind-shown (MultiInsert flags lines) f rule e = births-shown lines e rule
@@ -244,24 +246,24 @@ module _ (s : Statuses) (log : List TransactionRecord) (vs : List Version) (rec 
       (λ head. marks-locked xmax bits block.block line head) e
   kind-shown (LockUpdated xmax line bits flags) f rule e =
       head-changed line xmax bits (λ head. marked xmax bits head) f.0 (λ head. marks-marked xmax bits head) e
-  kind-shown (Confirm line) f rule e = pointed-shown s log vs block.block line block.block items after shown.1 shown.0 e
-  kind-shown (Checkpoint redo timeline previous writes next multi member oldest active) f rule e = subst (Shown s log vs block.block) (cc) shown
-  kind-shown (BackupEnd start) f rule e = subst (Shown s log vs block.block) (cc) shown
-  kind-shown (Parameters connections processes senders prepared locks level) f rule e = subst (Shown s log vs block.block) (cc) shown
-  kind-shown (FullPageWrites on) f rule e = subst (Shown s log vs block.block) (cc) shown
-  kind-shown Images f rule e = subst (Shown s log vs block.block) (cc) shown
-  kind-shown (Overwrite given_up time) f rule e = subst (Shown s log vs block.block) (cc) shown
-  kind-shown (Ended time xinfo xids) f rule e = subst (Shown s log vs block.block) (cc) shown
-  kind-shown (Running tops subs overflow next oldest latest xids) f rule e = subst (Shown s log vs block.block) (cc) shown
-  kind-shown Other f rule e = subst (Shown s log vs block.block) (cc) shown
+  kind-shown (Confirm line) f rule e = pointed-shown from log vs block.block line block.block items after shown.1 shown.0 e
+  kind-shown (Checkpoint redo timeline previous writes next multi member oldest active) f rule e = subst (Shown from log vs block.block) (cc) shown
+  kind-shown (BackupEnd start) f rule e = subst (Shown from log vs block.block) (cc) shown
+  kind-shown (Parameters connections processes senders prepared locks level) f rule e = subst (Shown from log vs block.block) (cc) shown
+  kind-shown (FullPageWrites on) f rule e = subst (Shown from log vs block.block) (cc) shown
+  kind-shown Images f rule e = subst (Shown from log vs block.block) (cc) shown
+  kind-shown (Overwrite given_up time) f rule e = subst (Shown from log vs block.block) (cc) shown
+  kind-shown (Ended time xinfo xids) f rule e = subst (Shown from log vs block.block) (cc) shown
+  kind-shown (Running tops subs overflow next oldest latest xids) f rule e = subst (Shown from log vs block.block) (cc) shown
+  kind-shown Other f rule e = subst (Shown from log vs block.block) (cc) shown
 
 -- After a change that is not refused a block shows the versions after the record's steps in it.
 pub changed_shows :
-    (s : Statuses) (log : List TransactionRecord) (vs : List Version) (rec : Rec) (block : RecBlock) (items after : List Item)
+    (from : LogOrigin) (log : List Rec) (vs : List Version) (rec : Rec) (block : RecBlock) (items after : List Item)
     → RecordFits rec → BlockFits block → applied block.image ≡ None → TuplesFit items
-    → StepsRule s log vs (own_steps rec block rec.kind vs)
-    → ShowsBlock s log vs block.block items
+    → StepsRule from log vs (own_steps rec block rec.kind vs)
+    → ShowsBlock from log vs block.block items
     → changed rec block rec.kind items ≡ Ok after
-    → ShowsBlock s log (with_steps vs (own_steps rec block rec.kind vs)) block.block after × TuplesFit after
-changed_shows s log vs rec block items after fits block_fits none fit rule shows e =
-    kind-shown s log vs rec block items after block_fits.tuples none (shows, fit) rec.kind fits.kind rule e
+    → ShowsBlock from log (with_steps vs (own_steps rec block rec.kind vs)) block.block after × TuplesFit after
+changed_shows from log vs rec block items after fits block_fits none fit rule shows e =
+    kind-shown from log vs rec block items after block_fits.tuples none (shows, fit) rec.kind fits.kind rule e

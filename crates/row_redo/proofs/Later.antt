@@ -1,11 +1,19 @@
 -- What a tuple shows after a log, it shows after one record more.
-use Rattle.std.proofs.Common.{◌≡◌, ℕ, true, List, ◌∷◌, Option, Some, None}
-use Rattle.std.proofs.lemmas.Bool.{or_right, or_from, both_ways, false_from_ne_true, false≢true}
+use Rattle.std.proofs.Common.{◌≡◌, inl, inr, ℕ, true, false, not, ◌||◌, ◌==◌, List, [], ◌∷◌, Option, Some, None, refl, sym, ap, ◌∙◌}
+use Rattle.std.proofs.lemmas.Bool.{and_left, and_right, or_cases, or_left, or_right, or_from, both_ways, false_from_ne_true, false≢true}
+use Rattle.wal_bodies.specs.declared.types.Rec.{Rec}
+use Rattle.heap_tuple.specs.declared.tuple_view.MaxOf.{MaxOf}
+use Rattle.heap_tuple.specs.declared.tuple_view.MaxOf.TheVariants.{None as NoDeleter, Xid as DeletedBy, Multi}
 use Rattle.heap_page.specs.Item.{Item, numbered}
-use Rattle.transaction_model.specs.Transactions.{Kind, Commit, Abort, Assignment, Running, Shutdown, Online, Other, TransactionRecord, commits, ends, committed, ended, Live}
+use Rattle.transaction_model.specs.Transactions.{Kind, Commit, Abort, Assignment, Running, Shutdown, Online, Other, TransactionRecord, Statuses, commits, ends, committed, ended, Live}
 use Rattle.transaction_model.specs.LegalTransactions.{Origin, RuleOf, Legal}
-use Rattle.row_model.specs.Versions.{Version, version_at}
-use Rattle.row_model.specs.LegalRows.{HasFailed, AreMarksTrue, Shows, ShowsPlace, ShowsBlock}
+use Rattle.xact_redo.specs.TransactionsOf.{transaction_of, transactions_of}
+use Rattle.row_model.specs.Versions.{Version, Inserter, Nobody, Always, By, version_at}
+use Rattle.row_model.specs.Origins.{LogOrigin, HasFailed, IsLive, committed_in}
+use Rattle.row_model.specs.Multixacts.{WasMade, deleter_in, multixacts}
+use Rattle.row_model.specs.Rows.{counts, has_committed, is_row}
+use Rattle.row_model.specs.Shows.{AreMarksTrue, Shows, ShowsPlace, ShowsBlock}
+use Rattle.row_model.specs.Shown.{IsSound}
 
 -- only a live id commits
 commits_live :
@@ -20,46 +28,130 @@ commits_live o xid (Online redo next) older now rule x h = absurd (false≢true 
 commits_live o xid Other older now rule x h = absurd (false≢true h)
 
 module _ (o : Origin) (r : TransactionRecord) (older : List TransactionRecord) (legal : Legal o (r ∷ older)) where
-  committed_later : (x : ℕ) → committed o.at x older ≡ true → committed o.at x (r ∷ older) ≡ true
-  unfolding committed
-  committed_later x h = or_right (commits x r.xid r.kind) (committed o.at x older) h
+  -- a record more commits no id that has ended
+  ended_uncommitted : (x : ℕ) → ended o.at x older ≡ true → committed o.at x older ≡ false → committed o.at x (r ∷ older) ≡ false
+  unfolding committed Legal
+  ended_uncommitted x has_ended not_committed =
+      or_from (commits x r.xid r.kind) (committed o.at x older)
+      (false_from_ne_true (commits x r.xid r.kind)
+      (λ h. both_ways (ended o.at x older) (commits_live o r.xid r.kind older (r ∷ older) legal.0 x h).not_ended has_ended))
+      not_committed
 
-  failed_later : (x : ℕ) → HasFailed o.at x older → HasFailed o.at x (r ∷ older)
-  unfolding committed ended Legal
+  ended_still : (x : ℕ) → ended o.at x older ≡ true → ended o.at x (r ∷ older) ≡ true
+  unfolding ended
+  ended_still x h = or_right (ends x r.xid r.kind) (ended o.at x older) h
+
+  committed_still : (x : ℕ) → committed o.at x older ≡ true → committed o.at x (r ∷ older) ≡ true
+  unfolding committed
+  committed_still x h = or_right (commits x r.xid r.kind) (committed o.at x older) h
+
+-- why a version that lost its place is no row: its insertion was taken back, its inserter failed, or a deleter committed
+pub data WhyLost (from : LogOrigin) (log : List Rec) (v : Version) : Type 0 where
+  TakenBack : v.inserter ≡ Nobody → WhyLost from log v
+  FailedBy : (x : ℕ) → v.inserter ≡ By x → HasFailed from log x → WhyLost from log v
+  WasDeletedBy : (x : ℕ) → deleter_in log v.deleter ≡ Some x → committed_in from log x ≡ true → WhyLost from log v
+
+-- so it is none
+pub lost_no_row : (from : LogOrigin) (log : List Rec) (v : Version) → WhyLost from log v → is_row (multixacts log) (committed_in from log) v ≡ false
+lost_no_row from log v (TakenBack by) =
+    and_left (counts (committed_in from log) v.inserter) (not (has_committed (committed_in from log) (deleter_in log v.deleter)))
+    (ap (counts (committed_in from log)) by)
+lost_no_row from log v (FailedBy x by failed) =
+    and_left (counts (committed_in from log) v.inserter) (not (has_committed (committed_in from log) (deleter_in log v.deleter)))
+    (ap (counts (committed_in from log)) by ∙ failed.not_committed)
+lost_no_row from log v (WasDeletedBy x by done) =
+    and_right (counts (committed_in from log) v.inserter) (not (has_committed (committed_in from log) (deleter_in log v.deleter)))
+    (ap (λ (d : Option ℕ). not (has_committed (committed_in from log) d)) by ∙ ap not done)
+
+module _ (from : LogOrigin) (rec : Rec) (older : List Rec) (legal : Legal from.transactions (transactions_of (rec ∷ older))) where
+  committed_later : (x : ℕ) → committed_in from older x ≡ true → committed_in from (rec ∷ older) x ≡ true
+  committed_later x h = committed_still from.transactions (transaction_of rec) (transactions_of older) legal x h
+
+  failed_later : (x : ℕ) → HasFailed from older x → HasFailed from (rec ∷ older) x
   failed_later x failed =
       record {
-        has_ended = or_right (ends x r.xid r.kind) (ended o.at x older) failed.has_ended;
+        has_ended = ended_still from.transactions (transaction_of rec) (transactions_of older) legal x failed.has_ended;
         not_committed =
-            or_from (commits x r.xid r.kind) (committed o.at x older)
-            (false_from_ne_true (commits x r.xid r.kind)
-            (λ h. both_ways (ended o.at x older)
-            (commits_live o r.xid r.kind older (r ∷ older) legal.0 x h).not_ended failed.has_ended))
+            ended_uncommitted from.transactions (transaction_of rec) (transactions_of older) legal x failed.has_ended
             failed.not_committed;
       }
 
-  pub marks_later : (v : Version) (tuple : List ℕ) → AreMarksTrue o.at older v tuple → AreMarksTrue o.at (r ∷ older) v tuple
+  -- a deleter stands for the same transaction
+  deleter_same : (d : MaxOf) → deleter_in (rec ∷ older) d ≡ deleter_in older d
+  deleter_same NoDeleter = refl
+  deleter_same (DeletedBy x) = refl
+  deleter_same (Multi id) = refl
+
+  pub marks_later : (v : Version) (tuple : List ℕ) → AreMarksTrue from older v tuple → AreMarksTrue from (rec ∷ older) v tuple
   marks_later v tuple marks =
       record {
         inserter_committed = λ x e h. committed_later x (marks.inserter_committed x e h);
         inserter_failed = λ x e h. failed_later x (marks.inserter_failed x e h);
-        deleter_committed = λ x e h. committed_later x.0 (marks.deleter_committed x e h);
-        deleter_failed = λ x e h. failed_later x.0 (marks.deleter_failed x e h);
+        deleter_committed = λ x e h. committed_later x (marks.deleter_committed x (sym (deleter_same v.deleter) ∙ e) h);
+        deleter_failed = λ x e h. failed_later x (marks.deleter_failed x (sym (deleter_same v.deleter) ∙ e) h);
       }
 
-  pub shows_later : (v : Version) (tuple : List ℕ) → Shows o.at older v tuple → Shows o.at (r ∷ older) v tuple
+  pub shows_later : (v : Version) (tuple : List ℕ) → Shows from older v tuple → Shows from (rec ∷ older) v tuple
   shows_later v tuple shows =
       record {
         row = shows.row;
         inserter = shows.inserter;
+        frozen = shows.frozen;
         deleter = shows.deleter;
         marks = marks_later v tuple shows.marks;
       }
 
-  place_later : (place : Option Version) (item : Item) → ShowsPlace o.at older place item → ShowsPlace o.at (r ∷ older) place item
+  place_later : (place : Option Version) (item : Item) → ShowsPlace from older place item → ShowsPlace from (rec ∷ older) place item
   place_later None item shows = shows
   place_later (Some v) item (tuple, is, shows) = (tuple, is, shows_later v tuple shows)
 
   pub block_later :
-      (vs : List Version) (block : ℕ) (items : List Item) → ShowsBlock o.at older vs block items
-      → ShowsBlock o.at (r ∷ older) vs block items
+      (vs : List Version) (block : ℕ) (items : List Item) → ShowsBlock from older vs block items
+      → ShowsBlock from (rec ∷ older) vs block items
   block_later vs block items shows line = place_later (version_at block line vs) (numbered items line) (shows line)
+
+  counts_later : (i : Inserter) → counts (committed_in from older) i ≡ true → counts (committed_in from (rec ∷ older)) i ≡ true
+  counts_later Nobody h = h
+  counts_later Always h = h
+  counts_later (By x) h = committed_later x h
+
+  made_later : (d : MaxOf) → WasMade older d → WasMade (rec ∷ older) d
+  made_later NoDeleter made = tt
+  made_later (DeletedBy x) made = tt
+  made_later (Multi id) made = made
+
+  pub sound_later : (v : Version) → IsSound from older v → IsSound from (rec ∷ older) v
+  sound_later v sound =
+      record { made = made_later v.deleter sound.made; frozen = λ h. counts_later v.inserter (sound.frozen h) }
+
+  pub lost_later : (v : Version) → WhyLost from older v → WhyLost from (rec ∷ older) v
+  lost_later v (TakenBack by) = TakenBack by
+  lost_later v (FailedBy x by failed) = FailedBy x by (failed_later x failed)
+  lost_later v (WasDeletedBy x by done) = WasDeletedBy x (deleter_same v.deleter ∙ by) (committed_later x done)
+
+-- a live transaction has not committed
+module _ (s : Statuses) where
+  commits_ends : (x xid : ℕ) (kind : Kind) → commits x xid kind ≡ true → ends x xid kind ≡ true
+  commits_ends x xid (Commit subs) h = h
+  commits_ends x xid (Abort subs) h = absurd (false≢true h)
+  commits_ends x xid (Assignment top subs) h = absurd (false≢true h)
+  commits_ends x xid (Running head xids) h = absurd (false≢true h)
+  commits_ends x xid (Shutdown next) h = absurd (false≢true h)
+  commits_ends x xid (Online redo next) h = absurd (false≢true h)
+  commits_ends x xid Other h = absurd (false≢true h)
+
+  committed_ended : (x : ℕ) (log : List TransactionRecord) → committed s x log ≡ true → ended s x log ≡ true
+  unfolding committed ended
+  committed_ended x [] h = or_left ((x == 1 || x == 2) || s.is_committed x) (s.is_aborted x) h
+  committed_ended x (r ∷ older) h =
+      elim (or_cases (commits x r.xid r.kind) (committed s x older) h) [
+        | inl now ↦ or_left (ends x r.xid r.kind) (ended s x older) (commits_ends x r.xid r.kind now)
+        | inr before ↦ or_right (ends x r.xid r.kind) (ended s x older) (committed_ended x older before)
+      ]
+
+pub live_uncommitted : (from : LogOrigin) (log : List Rec) (x : ℕ) → IsLive from log x → committed_in from log x ≡ false
+live_uncommitted from log x live =
+    false_from_ne_true (committed_in from log x)
+    (λ done.
+    both_ways (ended from.transactions.at x (transactions_of log)) live.not_ended
+    (committed_ended from.transactions.at x (transactions_of log) done))

@@ -12,6 +12,7 @@ pub mod OneStep
 pub mod Own
 pub mod Pages
 pub mod Places
+pub mod Rules
 pub mod Standing
 pub mod StepPlaces
 pub mod Tables

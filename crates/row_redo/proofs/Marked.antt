@@ -7,12 +7,14 @@ use Rattle.heap_tuple.specs.declared.tuple_view.MaxOf.{MaxOf}
 use Rattle.heap_tuple.specs.declared.tuple_view.MaxOf.TheVariants.{None as NoDeleter, Xid as DeletedBy, Multi}
 use Rattle.heap_page.specs.Put.{with_head}
 use Rattle.tuple_visibility.specs.Visible.{xmin_marks}
-use Rattle.transaction_model.specs.Transactions.{Statuses, TransactionRecord}
+use Rattle.wal_bodies.specs.declared.types.Rec.{Rec}
+use Rattle.row_model.specs.Origins.{LogOrigin}
 use Rattle.wal_bodies.specs.Fields.{has}
 use Rattle.wal_bodies.specs.Heads.{Head, head_of, head_bytes, marked_mask, pointing_to}
-use Rattle.row_model.specs.Versions.{Version, Inserter, Nobody, Always, By}
+use Rattle.row_model.specs.Versions.{Version, Inserter, Nobody, Always, By, taken_back, with_deleter}
 use Rattle.row_model.specs.RowSteps.{deleter_of_mark}
-use Rattle.row_model.specs.LegalRows.{AreBytes, StoresSame, ShowsInserter, ShowsDeleter, Shows}
+use Rattle.row_model.specs.Shows.{StoresSame, ShowsInserter, ShowsDeleter, Shows}
+use Rattle.row_model.specs.LegalRows.{AreBytes}
 use Rattle.row_redo.proofs.Bits.{mark-xmin_marks, mark-nulls, mark-committed, mark-invalid, mark-lock_only, mark-multi, mark-small}
 use Rattle.row_redo.proofs.Heads.{HeadFits, head-fits, head-reads, head-bytes, end-of, Marks}
 
@@ -67,9 +69,9 @@ marked-max xmin xmax bits tuple new m =
 pub same-inserter :
     (tuple new : List ℕ) (i : Inserter) → xmin_of new ≡ xmin_of tuple → xmin_marks new ≡ xmin_marks tuple → ShowsInserter tuple i
     → ShowsInserter new i
-same-inserter tuple new Nobody e m (x, f) = (e ∙ x, ap (λ n. n == 0x0300) m ∙ f)
-same-inserter tuple new Always e m h = m ∙ h
-same-inserter tuple new (By id) e m (x, f) = (e ∙ x, ap (λ n. n == 0x0300) m ∙ f)
+same-inserter tuple new Nobody e m h = e ∙ h
+same-inserter tuple new Always e m h = ap (λ n. n == 0x0300) m ∙ h
+same-inserter tuple new (By id) e m h = e ∙ h
 
 pub this-deleter : (tuple : List ℕ) (i : Inserter) (d : MaxOf) → max_of tuple ≡ d → ShowsDeleter tuple i d
 this-deleter tuple Nobody d e = tt
@@ -93,10 +95,10 @@ marked-stores xmin xmax bits tuple new written m same = record {
   bytes = m.values ∙ same.bytes;
 }
 
-module _ (s : Statuses) (log : List TransactionRecord) (v : Version) (tuple new : List ℕ) (shows : Shows s log v tuple) where
+module _ (from : LogOrigin) (log : List Rec) (v : Version) (tuple new : List ℕ) (shows : Shows from log v tuple) where
   -- a deleter or locker is marked
   pub shows-deleter :
-      (xmax bits : ℕ) → IsMarked (xmin_of tuple) xmax bits tuple new → Shows s log (record v { deleter = deleter_of_mark xmax bits }) new
+      (xmax bits : ℕ) → IsMarked (xmin_of tuple) xmax bits tuple new → Shows from log (with_deleter (deleter_of_mark xmax bits) v) new
   shows-deleter xmax bits m =
       let same = marked-xmin (xmin_of tuple) xmax bits tuple new m in
       let old = shows.marks in
@@ -105,6 +107,7 @@ module _ (s : Statuses) (log : List TransactionRecord) (v : Version) (tuple new 
       record {
         row = marked-stores (xmin_of tuple) xmax bits tuple new v.tuple m shows.row;
         inserter = same-inserter tuple new v.inserter m.xmin_is same shows.inserter;
+        frozen = ap (λ n. n == 0x0300) same ∙ shows.frozen;
         deleter = this-deleter new v.inserter (deleter_of_mark xmax bits) (marked-max (xmin_of tuple) xmax bits tuple new m);
         marks = record {
           inserter_committed = λ x by mark. old.inserter_committed x by (sym same ∙ mark);
@@ -115,16 +118,15 @@ module _ (s : Statuses) (log : List TransactionRecord) (v : Version) (tuple new 
       }
 
   -- an insertion is taken back
-  pub shows-undone :
-      (x xmax bits : ℕ) → v.inserter ≡ By x → IsMarked 0 xmax bits tuple new → Shows s log (record v { inserter = Nobody }) new
-  shows-undone x xmax bits by m =
+  pub shows-undone : (xmax bits : ℕ) → IsMarked 0 xmax bits tuple new → Shows from log (taken_back v) new
+  shows-undone xmax bits m =
       let same = marked-xmin 0 xmax bits tuple new m in
-      let was : ShowsInserter tuple (By x) = subst (ShowsInserter tuple) by shows.inserter in
       let cleared = ap (λ n. has_bits n 0x0400) m.mask_is ∙ mark-committed bits (infomask_of tuple) in
       let valid = ap (λ n. has_bits n 0x0800) m.mask_is ∙ mark-invalid bits (infomask_of tuple) in
       record {
         row = marked-stores 0 xmax bits tuple new v.tuple m shows.row;
-        inserter = (m.xmin_is, ap (λ n. n == 0x0300) same ∙ was.1);
+        inserter = m.xmin_is;
+        frozen = ap (λ n. n == 0x0300) same ∙ shows.frozen;
         deleter = tt;
         marks = record {
           inserter_committed = λ x by mark. absurd (cc);
@@ -169,9 +171,9 @@ pointed-max tuple new m =
     (ap is_lock_only m.mask_is) (ap (λ n. has_bits n 0x1000) m.mask_is) m.xmax_is
 
 pub shows-pointed :
-    (s : Statuses) (log : List TransactionRecord) (v : Version) (tuple new : List ℕ) → Shows s log v tuple → IsPointed tuple new
-    → Shows s log v new
-shows-pointed s log v tuple new shows m =
+    (from : LogOrigin) (log : List Rec) (v : Version) (tuple new : List ℕ) → Shows from log v tuple → IsPointed tuple new
+    → Shows from log v new
+shows-pointed from log v tuple new shows m =
     let same : xmin_marks new ≡ xmin_marks tuple = ap (λ n. bit_and n 0x0300) m.mask_is in
     let old = shows.marks in
     record {
@@ -181,6 +183,7 @@ shows-pointed s log v tuple new shows m =
         bytes = m.values ∙ shows.row.bytes;
       };
       inserter = same-inserter tuple new v.inserter m.xmin_is same shows.inserter;
+      frozen = ap (λ n. n == 0x0300) same ∙ shows.frozen;
       deleter = same-deleter tuple new v.inserter v.deleter (pointed-max tuple new m) shows.deleter;
       marks = record {
         inserter_committed = λ x by mark. old.inserter_committed x by (sym same ∙ mark);

@@ -11,10 +11,12 @@ use Rattle.wal_bodies.specs.declared.types.RecKind.{RecKind}
 use Rattle.wal_bodies.specs.declared.types.RecKind.TheVariants.{Checkpoint, BackupEnd, Parameters, FullPageWrites, Images, Overwrite, Ended, Running, Insert, Delete, Update, Confirm, Lock, MultiInsert, LockUpdated, Other}
 use Rattle.wal_bodies.specs.After.{BlockRefusal, no_page, bad_page, Content, page, page_of_image, after_restore, applied, is_images, made_anew, paged, changed, changed_page, after_change, after_image, after}
 use Rattle.heap_redo.specs.Redone.{Seen, absent, bad_block, seen_page, content_of, stamped, is_anew, is_left, has_reached, left_by, redone_block}
-use Rattle.transaction_model.specs.Transactions.{Statuses, TransactionRecord}
+use Rattle.row_model.specs.Origins.{LogOrigin}
 use Rattle.row_model.specs.Versions.{Version, RowStep, version_at, with_steps}
 use Rattle.row_model.specs.RowSteps.{items_in, own_steps, whole_steps, block_steps}
-use Rattle.row_model.specs.LegalRows.{RecordFits, BlockFits, ImageFits, ShowsPlace, ShowsBlock, StepsRule, ImageRule, AnewRule}
+use Rattle.row_model.specs.Shows.{ShowsPlace, ShowsBlock}
+use Rattle.row_model.specs.LegalRows.{RecordFits, BlockFits, ImageFits, ImageRule, AnewRule}
+use Rattle.row_redo.proofs.Rules.{StepsRule}
 use Rattle.row_model.specs.Shown.{HasNone}
 use Rattle.row_redo.proofs.Fitting.{TuplesFit}
 use Rattle.row_redo.proofs.Changes.{changed_shows}
@@ -68,10 +70,10 @@ pub record IsKept (rec : Rec) (block : RecBlock) (steps : List RowStep) (before 
   pub no_steps : steps ≡ []
 
 -- the block has the record's change and shows its versions
-pub record IsChanged (s : Statuses) (log : List TransactionRecord) (rec : Rec) (block : RecBlock) (count : ℕ) (vs : List Version) (left : Seen) : Type 0 where
+pub record IsChanged (from : LogOrigin) (log : List Rec) (rec : Rec) (block : RecBlock) (count : ℕ) (vs : List Version) (left : Seen) : Type 0 where
   pub items : List Item
   pub is : left ≡ seen_page rec.end.0 items
-  pub shows : ShowsBlock s log vs block.block items
+  pub shows : ShowsBlock from log vs block.block items
   pub fits : TuplesFit items
   pub not_left : is_left rec block ≡ false
   pub there : is_anew block ≡ false → block.block < count
@@ -86,13 +88,13 @@ applied_fits (Some image) fits = fits_if image.apply
     fits_if false = tt
 
 -- a block without versions is shown by a page without items
-none_shown : (s : Statuses) (log : List TransactionRecord) (place : Option Version) (item : Item) → place ≡ None → item ≡ unused → ShowsPlace s log place item
-none_shown s log None item e f = ap is_normal f
-none_shown s log (Some v) item e f = cc
+none_shown : (from : LogOrigin) (log : List Rec) (place : Option Version) (item : Item) → place ≡ None → item ≡ unused → ShowsPlace from log place item
+none_shown from log None item e f = ap is_normal f
+none_shown from log (Some v) item e f = cc
 
-pub none_shows : (s : Statuses) (log : List TransactionRecord) (vs : List Version) (block : ℕ) → HasNone vs block → ShowsBlock s log vs block []
-none_shows s log vs block none zero = none_shown s log (version_at block zero vs) unused (none zero) refl
-none_shows s log vs block none (suc k) = none_shown s log (version_at block (suc k) vs) (numbered [] (suc k)) (none (suc k)) (no_item k)
+pub none_shows : (from : LogOrigin) (log : List Rec) (vs : List Version) (block : ℕ) → HasNone vs block → ShowsBlock from log vs block []
+none_shows from log vs block none zero = none_shown from log (version_at block zero vs) unused (none zero) refl
+none_shows from log vs block none (suc k) = none_shown from log (version_at block (suc k) vs) (numbered [] (suc k)) (none (suc k)) (no_item k)
   where
     no_item : (k : ℕ) → numbered [] (suc k) ≡ unused
     no_item zero = refl
@@ -153,16 +155,16 @@ module _ (rec : Rec) (block : RecBlock) where
   left_with image e = ap (λ (x : Option NewImage). is_images rec.kind && not (is_some x)) e
 
 -- the block of the record, with the versions before the record and those before its steps in this block
-module _ (keep : TuplesKeepRule) (s : Statuses) (log : List TransactionRecord) (rec : Rec) (block : RecBlock) (count now : ℕ) (vs ws last : List Version)
+module _ (keep : TuplesKeepRule) (from : LogOrigin) (log : List Rec) (rec : Rec) (block : RecBlock) (count now : ℕ) (vs ws last : List Version)
     (record_fits : RecordFits rec) (block_fits : BlockFits block) (same : SameIn block.block vs ws)
-    (rule : StepsRule s log ws (block_steps rec block count vs)) (anew : AnewRule vs block)
+    (rule : StepsRule from log ws (block_steps rec block count vs)) (anew : AnewRule vs block)
     (later : SameIn block.block last (with_steps ws (block_steps rec block count vs))) where
   -- restored from its image
   one_restored :
-      (image : NewImage) (before left : Seen) → applied block.image ≡ Some image → ImageRule s log last block.block (Some image)
+      (image : NewImage) (before left : Seen) → applied block.image ≡ Some image → ImageRule from log last block.block (Some image)
       → ImageFits (Some image)
       → left_by rec block before (after_restore image) ≡ Ok left
-      → IsChanged s log rec block now (with_steps ws (block_steps rec block count vs)) left
+      → IsChanged from log rec block now (with_steps ws (block_steps rec block count vs)) left
   one_restored image before left e shows fits ran =
       let stamps : is_left rec block ≡ false =
       left_with rec block (Some image) e ∙ and_right (is_images rec.kind) false refl in
@@ -170,7 +172,7 @@ module _ (keep : TuplesKeepRule) (s : Statuses) (log : List TransactionRecord) (
       record {
         items = items_in image;
         is = is;
-        shows = block_same s log last (with_steps ws (block_steps rec block count vs)) block.block (items_in image) later shows;
+        shows = block_same from log last (with_steps ws (block_steps rec block count vs)) block.block (items_in image) later shows;
         fits = image_fits keep image fits is_page_there;
         not_left = stamps;
         there = λ (not_anew : is_anew block ≡ false).
@@ -180,24 +182,24 @@ module _ (keep : TuplesKeepRule) (s : Statuses) (log : List TransactionRecord) (
   -- changed
   one_changed :
       (before left : Seen) (items after : List Item) → applied block.image ≡ None → is_images rec.kind ≡ false
-      → ShowsBlock s log ws block.block items → TuplesFit items → changed rec block rec.kind items ≡ Ok after
+      → ShowsBlock from log ws block.block items → TuplesFit items → changed rec block rec.kind items ≡ Ok after
       → left ≡ seen_page rec.end.0 after → (is_anew block ≡ false → block.block < now)
-      → IsChanged s log rec block now (with_steps ws (block_steps rec block count vs)) left
+      → IsChanged from log rec block now (with_steps ws (block_steps rec block count vs)) left
   one_changed before left items after e other shows fits done is there =
       let own : List RowStep = own_steps rec block rec.kind vs in
       let steps : block_steps rec block count vs ≡ own = steps_own rec block count vs e in
       let old = same_back block.block vs ws same in
-      let own_rule = rules_same s log block.block own ws vs (own_in rec block rec.kind vs) old
-      (subst (λ (l : List RowStep). StepsRule s log ws l) steps rule) in
-      let (shown, still) = changed_shows s log vs rec block items after record_fits block_fits e fits own_rule
-      (block_same s log ws vs block.block items old shows) done in
+      let own_rule = rules_same from log block.block own ws vs (own_in rec block rec.kind vs) old
+      (subst (λ (l : List RowStep). StepsRule from log ws l) steps rule) in
+      let (shown, still) = changed_shows from log vs rec block items after record_fits block_fits e fits own_rule
+      (block_same from log ws vs block.block items old shows) done in
       record {
         items = after;
         is = is;
         shows =
-            block_same s log (with_steps ws own) (with_steps ws (block_steps rec block count vs)) block.block after
+            block_same from log (with_steps ws own) (with_steps ws (block_steps rec block count vs)) block.block after
             (λ line. ap (λ (l : List RowStep). version_at block.block line (with_steps ws l)) (sym steps))
-            (block_same s log (with_steps vs own) (with_steps ws own) block.block after (steps_same block.block own vs ws same) shown);
+            (block_same from log (with_steps vs own) (with_steps ws own) block.block after (steps_same block.block own vs ws same) shown);
         fits = still;
         not_left = left_with rec block None e ∙ ap (λ (v : Bool). v && true) other;
         there = there;
@@ -206,14 +208,14 @@ module _ (keep : TuplesKeepRule) (s : Statuses) (log : List TransactionRecord) (
   -- what it is changed from: nothing, or the page
   one_from :
       (before left : Seen) (init : Bool) → block.will_init ≡ init → applied block.image ≡ None → is_images rec.kind ≡ false
-      → Holds s log ws now rec.end.0 block.block before
+      → Holds from log ws now rec.end.0 block.block before
       → left_by rec block before (changed_page rec block (made_anew init (content_of before))) ≡ Ok left
-      → IsChanged s log rec block now (with_steps ws (block_steps rec block count vs)) left
+      → IsChanged from log rec block now (with_steps ws (block_steps rec block count vs)) left
   unfolding changed_page
   one_from before left true init e other holds ran =
       let stamps = left_with rec block None e ∙ ap (λ (v : Bool). v && true) other in
       let (after, done, is) = paged_left rec block before left (changed rec block rec.kind []) stamps ran in
-      one_changed before left [] after e other (none_shows s log ws block.block (none_same block.block vs ws same (anew init)))
+      one_changed before left [] after e other (none_shows from log ws block.block (none_same block.block vs ws same (anew init)))
       none_fit done is
       (λ (not_anew : is_anew block ≡ false). absurd (both_ways (is_anew block) not_anew (or_right (is_some (applied block.image)) block.will_init init)))
   one_from absent left false init e other holds ran = cc
@@ -226,10 +228,10 @@ module _ (keep : TuplesKeepRule) (s : Statuses) (log : List TransactionRecord) (
   -- by whether it is a record of images
   one_by :
       (v : Bool) (before left : Seen) → is_images rec.kind ≡ v → applied block.image ≡ None
-      → Holds s log ws now rec.end.0 block.block before
+      → Holds from log ws now rec.end.0 block.block before
       → left_by rec block before (cond v (Ok (content_of before)) (changed_page rec block (made_anew block.will_init (content_of before)))) ≡ Ok left
       → IsKept rec block (block_steps rec block count vs) before left
-      ⊎ IsChanged s log rec block now (with_steps ws (block_steps rec block count vs)) left
+      ⊎ IsChanged from log rec block now (with_steps ws (block_steps rec block count vs)) left
   one_by true before left images e holds ran =
       let keeps = left_with rec block None e ∙ ap (λ (v : Bool). v && true) images in
       inl (record {
@@ -241,28 +243,28 @@ module _ (keep : TuplesKeepRule) (s : Statuses) (log : List TransactionRecord) (
 
   -- without an image that is restored
   one_without :
-      (before left : Seen) → applied block.image ≡ None → Holds s log ws now rec.end.0 block.block before
+      (before left : Seen) → applied block.image ≡ None → Holds from log ws now rec.end.0 block.block before
       → left_by rec block before (after_change rec block (content_of before)) ≡ Ok left
       → IsKept rec block (block_steps rec block count vs) before left
-      ⊎ IsChanged s log rec block now (with_steps ws (block_steps rec block count vs)) left
+      ⊎ IsChanged from log rec block now (with_steps ws (block_steps rec block count vs)) left
   unfolding after_change
   one_without before left e holds ran = one_by (is_images rec.kind) before left refl e holds ran
 
   -- by the image
   one_with :
       (image : Option NewImage) (before left : Seen) → applied block.image ≡ image → ImageFits image
-      → ImageRule s log last block.block image → Holds s log ws now rec.end.0 block.block before
+      → ImageRule from log last block.block image → Holds from log ws now rec.end.0 block.block before
       → left_by rec block before (after_image rec block (content_of before) image) ≡ Ok left
       → IsKept rec block (block_steps rec block count vs) before left
-      ⊎ IsChanged s log rec block now (with_steps ws (block_steps rec block count vs)) left
+      ⊎ IsChanged from log rec block now (with_steps ws (block_steps rec block count vs)) left
   one_with (Some image) before left e fits shows holds ran = inr (one_restored image before left e shows fits ran)
   one_with None before left e fits shows holds ran = one_without before left e holds ran
 
   pub one_block :
-      (before left : Seen) → Holds s log ws now rec.end.0 block.block before → IsBehind rec.end.0 before
-      → ImageRule s log last block.block (applied block.image) → redone_block rec block before ≡ Ok left
+      (before left : Seen) → Holds from log ws now rec.end.0 block.block before → IsBehind rec.end.0 before
+      → ImageRule from log last block.block (applied block.image) → redone_block rec block before ≡ Ok left
       → IsKept rec block (block_steps rec block count vs) before left
-      ⊎ IsChanged s log rec block now (with_steps ws (block_steps rec block count vs)) left
+      ⊎ IsChanged from log rec block now (with_steps ws (block_steps rec block count vs)) left
   one_block before left holds behind shows done =
       one_with (applied block.image) before left refl (applied_fits block.image block_fits.image) shows holds
       (ran rec block before left behind done)

@@ -1,18 +1,12 @@
 -- Which versions stand at a place once steps were made.
-use Rattle.std.proofs.Common.{◌≡◌, ℕ, Bool, true, false, ◌==◌, cond, List, [], ◌∷◌, ◌++◌, Option, Some, None, refl, sym, ap, ◌∙◌, subst}
-use Rattle.std.proofs.lemmas.Bool.{and_parts, and_left, eqb-true, ne_eqb, false≢true}
-use Rattle.heap_tuple.specs.declared.tuple_view.MaxOf.{MaxOf}
-use Rattle.transaction_model.specs.Transactions.{Statuses, TransactionRecord}
-use Rattle.row_model.specs.Versions.{Version, Nobody, RowStep, Born, Deleter, Undone, version_born, is_at, version_at, changed_at, with_step, with_steps}
-use Rattle.row_model.specs.LegalRows.{StepRule, StepsRule, UndoneRule}
+use Rattle.std.proofs.Common.{◌≡◌, ℕ, Bool, true, false, ◌&&◌, ◌==◌, cond, List, [], ◌∷◌, ◌++◌, Option, Some, None, refl, sym, ap, ◌∙◌, subst}
+use Rattle.std.proofs.lemmas.Bool.{and_parts, and_left, eqb-true, ne_eqb, false_from_ne_true, false≢true}
+use Rattle.wal_bodies.specs.declared.types.Rec.{Rec}
+use Rattle.row_model.specs.Origins.{LogOrigin}
+use Rattle.row_model.specs.Versions.{Version, RowStep, Born, Deleter, Undone, Removed, Frozen, deleter_of_plan, frozen_by, removed, taken_back, version_born, is_at, version_at, changed_at, with_deleter, with_step, with_steps}
+use Rattle.row_model.specs.LegalSteps.{IfVersion, MayBeRemoved, MayFollow, MayUndo, PlanRule}
+use Rattle.row_redo.proofs.Rules.{StepRule, StepsRule}
 use Rattle.row_model.specs.Shown.{HasNone}
-
--- a version with another deleter, or whose insertion was taken back
-abbrev pub with_deleter : MaxOf → Version → Version
-with_deleter d v = record v { deleter = d }
-
-abbrev pub taken_back : Version → Version
-taken_back v = record v { inserter = Nobody }
 
 -- the place stays
 abbrev pub KeepsPlace : (Version → Version) → Type 0
@@ -62,37 +56,20 @@ changed_same :
 changed_same b l f keeps block vs ws same line =
     at_changed b l f keeps block line vs ∙ ap (put b l f) (same line) ∙ sym (at_changed b l f keeps block line ws)
 
--- a step does the same to them
-pub step_same :
-    (block : ℕ) (vs ws : List Version) (step : RowStep) → SameIn block vs ws
-    → SameIn block (with_step vs step) (with_step ws step)
-unfolding with_step version_at
-step_same block vs ws (Born b l tuple) same line =
-    ap (λ (x : Option Version). cond (is_at block line (version_born b l tuple)) (Some (version_born b l tuple)) x) (same line)
-step_same block vs ws (Deleter b l d) same line = changed_same b l (with_deleter d) (λ x y v. refl) block vs ws same line
-step_same block vs ws (Undone b l) same line = changed_same b l taken_back (λ x y v. refl) block vs ws same line
+-- what stands at a place, unless it is this one
+abbrev pub dropped : ℕ → ℕ → Option Version → Option Version
+dropped b l None = None
+dropped b l (Some v) = cond (is_at b l v) None (Some v)
 
-pub steps_same :
-    (block : ℕ) (steps : List RowStep) (vs ws : List Version) → SameIn block vs ws
-    → SameIn block (with_steps vs steps) (with_steps ws steps)
-unfolding with_steps
-steps_same block [] vs ws same = same
-steps_same block (step ∷ steps) vs ws same =
-    steps_same block steps (with_step vs step) (with_step ws step) (step_same block vs ws step same)
-
--- the block in which a step is made
-abbrev pub block_of : RowStep → ℕ
-block_of (Born block line tuple) = block
-block_of (Deleter block line d) = block
-block_of (Undone block line) = block
-
-abbrev pub AllIn : ℕ → List RowStep → Type 0
-AllIn block [] = Unit {0}
-AllIn block (step ∷ steps) = (block_of step ≡ block) × AllIn block steps
-
-pub all_joined : (block : ℕ) (first then : List RowStep) → AllIn block first → AllIn block then → AllIn block (first ++ then)
-all_joined block [] then a b = b
-all_joined block (step ∷ first) then (e, a) b = (e, all_joined block first then a b)
+-- a version that stands at two places stands at one
+pub one_place :
+    (b l block line : ℕ) (v : Version) → is_at b l v ≡ true → is_at block line v ≡ true → (b ≡ block) × (l ≡ line)
+one_place b l block line v here there =
+    let (holds, at) = and_parts v.holds ((v.block == b) && (v.line == l)) here in
+    let (still, too) = and_parts v.holds ((v.block == block) && (v.line == line)) there in
+    let (p, q) = and_parts (v.block == b) (v.line == l) at in
+    let (r, s) = and_parts (v.block == block) (v.line == line) too in
+    (sym (eqb-true v.block b p) ∙ eqb-true v.block block r, sym (eqb-true v.line l q) ∙ eqb-true v.line line s)
 
 -- a version that is found stands there
 first_found :
@@ -109,10 +86,89 @@ found_there block line [] v e = cc
 found_there block line (w ∷ vs) v e =
     first_found block line w v (version_at block line vs) (is_at block line w) refl (found_there block line vs v) e
 
+-- what is dropped at its place
+dropped_there : (b l : ℕ) (x : Option Version) → ((v : Version) → x ≡ Some v → is_at b l v ≡ true) → dropped b l x ≡ None
+dropped_there b l None there = refl
+dropped_there b l (Some v) there = ap (λ (t : Bool). cond t None (Some v)) (there v refl)
+
+removed_first :
+    (b l block line : ℕ) (v : Version) (rest vs : List Version) (t u : Bool) → is_at b l v ≡ t → is_at block line v ≡ u
+    → version_at block line rest ≡ dropped b l (version_at block line vs)
+    → version_at block line (cond t (removed v) v ∷ rest) ≡ dropped b l (version_at block line (v ∷ vs))
+unfolding version_at
+removed_first b l block line v rest vs true true e f same =
+    let (p, q) = one_place b l block line v e f in
+    let gone : dropped b l (version_at block line vs) ≡ None =
+    dropped_there b l (version_at block line vs)
+    (λ w found. subst (λ (n : ℕ). is_at b n w ≡ true) (sym q)
+    (subst (λ (n : ℕ). is_at n line w ≡ true) (sym p) (found_there block line vs w found))) in
+    same ∙ gone ∙ sym (ap (λ (k : Bool). dropped b l (cond k (Some v) (version_at block line vs))) f ∙ ap (λ (k : Bool). cond k None (Some v)) e)
+removed_first b l block line v rest vs true false e f same =
+    same ∙ sym (ap (λ (k : Bool). dropped b l (cond k (Some v) (version_at block line vs))) f)
+removed_first b l block line v rest vs false true e f same =
+    ap (λ (k : Bool). cond k (Some v) (version_at block line rest)) f
+    ∙ sym (ap (λ (k : Bool). dropped b l (cond k (Some v) (version_at block line vs))) f ∙ ap (λ (k : Bool). cond k None (Some v)) e)
+removed_first b l block line v rest vs false false e f same =
+    ap (λ (k : Bool). cond k (Some v) (version_at block line rest)) f ∙ same
+    ∙ sym (ap (λ (k : Bool). dropped b l (cond k (Some v) (version_at block line vs))) f)
+
+removed_none : (b l block line : ℕ) → version_at block line [] ≡ dropped b l (version_at block line [])
+unfolding version_at
+removed_none b l block line = refl
+
+-- what stands at a place once the version at this one lost its own
+pub at_removed :
+    (b l block line : ℕ) (vs : List Version)
+    → version_at block line (changed_at b l removed vs) ≡ dropped b l (version_at block line vs)
+unfolding changed_at
+at_removed b l block line [] = removed_none b l block line
+at_removed b l block line (v ∷ vs) =
+    removed_first b l block line v (changed_at b l removed vs) vs (is_at b l v) (is_at block line v) refl refl
+    (at_removed b l block line vs)
+
+removed_same : (b l block : ℕ) (vs ws : List Version) → SameIn block vs ws → SameIn block (changed_at b l removed vs) (changed_at b l removed ws)
+removed_same b l block vs ws same line =
+    at_removed b l block line vs ∙ ap (dropped b l) (same line) ∙ sym (at_removed b l block line ws)
+
+-- a step does the same to them
+pub step_same :
+    (block : ℕ) (vs ws : List Version) (step : RowStep) → SameIn block vs ws
+    → SameIn block (with_step vs step) (with_step ws step)
+unfolding with_step version_at
+step_same block vs ws (Born whole b l tuple) same line =
+    ap (λ (x : Option Version). cond (is_at block line (version_born b l tuple)) (Some (version_born b l tuple)) x) (same line)
+step_same block vs ws (Deleter b l d) same line = changed_same b l (with_deleter d) (λ x y v. refl) block vs ws same line
+step_same block vs ws (Undone b l) same line = changed_same b l taken_back (λ x y v. refl) block vs ws same line
+step_same block vs ws (Removed b l) same line = removed_same b l block vs ws same line
+step_same block vs ws (Frozen b l plan) same line = changed_same b l (frozen_by plan) (λ x y v. refl) block vs ws same line
+
+pub steps_same :
+    (block : ℕ) (steps : List RowStep) (vs ws : List Version) → SameIn block vs ws
+    → SameIn block (with_steps vs steps) (with_steps ws steps)
+unfolding with_steps
+steps_same block [] vs ws same = same
+steps_same block (step ∷ steps) vs ws same =
+    steps_same block steps (with_step vs step) (with_step ws step) (step_same block vs ws step same)
+
+-- the block in which a step is made
+abbrev pub block_of : RowStep → ℕ
+block_of (Born whole block line tuple) = block
+block_of (Deleter block line d) = block
+block_of (Undone block line) = block
+block_of (Removed block line) = block
+block_of (Frozen block line plan) = block
+
+abbrev pub AllIn : ℕ → List RowStep → Type 0
+AllIn block [] = Unit {0}
+AllIn block (step ∷ steps) = (block_of step ≡ block) × AllIn block steps
+
+pub all_joined : (block : ℕ) (first then : List RowStep) → AllIn block first → AllIn block then → AllIn block (first ++ then)
+all_joined block [] then a b = b
+all_joined block (step ∷ first) then (e, a) b = (e, all_joined block first then a b)
+
 not_in_other : (block line b l : ℕ) (v : Version) → is_at block line v ≡ true → (b ≡ block → ⊥) → is_at b l v ≡ false
 not_in_other block line b l v h other =
-    and_left (v.block == b) (v.line == l)
-    (ne_eqb v.block b (λ e. other (sym e ∙ eqb-true v.block block (and_parts (v.block == block) (v.line == line) h).0)))
+    false_from_ne_true (is_at b l v) (λ here. other (one_place b l block line v here h).0)
 
 put_away : (block line b l : ℕ) (f : Version → Version) (x : Option Version) → (b ≡ block → ⊥)
     → ((v : Version) → x ≡ Some v → is_at block line v ≡ true) → x ≡ put b l f x
@@ -127,15 +183,26 @@ changed_away :
 changed_away b l f keeps block vs other line =
     put_away block line b l f (version_at block line vs) other (found_there block line vs) ∙ sym (at_changed b l f keeps block line vs)
 
+drop_away : (block line b l : ℕ) (x : Option Version) → (b ≡ block → ⊥) → ((v : Version) → x ≡ Some v → is_at block line v ≡ true) → x ≡ dropped b l x
+drop_away block line b l None other there = refl
+drop_away block line b l (Some v) other there =
+    sym (ap (λ (t : Bool). cond t None (Some v)) (not_in_other block line b l v (there v refl) other))
+
+removed_away : (b l block : ℕ) (vs : List Version) → (b ≡ block → ⊥) → SameIn block vs (changed_at b l removed vs)
+removed_away b l block vs other line =
+    drop_away block line b l (version_at block line vs) other (found_there block line vs) ∙ sym (at_removed b l block line vs)
+
 -- a step in another block changes nothing there
 pub step_away :
     (block : ℕ) (vs : List Version) (step : RowStep) → (block_of step ≡ block → ⊥) → SameIn block vs (with_step vs step)
 unfolding with_step version_at
-step_away block vs (Born b l tuple) other line =
+step_away block vs (Born whole b l tuple) other line =
     sym (ap (λ (t : Bool). cond t (Some (version_born b l tuple)) (version_at block line vs))
     (and_left (b == block) (l == line) (ne_eqb b block other)))
 step_away block vs (Deleter b l d) other line = changed_away b l (with_deleter d) (λ x y v. refl) block vs other line
 step_away block vs (Undone b l) other line = changed_away b l taken_back (λ x y v. refl) block vs other line
+step_away block vs (Removed b l) other line = removed_away b l block vs other line
+step_away block vs (Frozen b l plan) other line = changed_away b l (frozen_by plan) (λ x y v. refl) block vs other line
 
 pub steps_away :
     (block b : ℕ) (steps : List RowStep) (vs : List Version) → AllIn b steps → (b ≡ block → ⊥)
@@ -154,35 +221,77 @@ steps_joined [] then vs = refl
 steps_joined (step ∷ first) then vs = steps_joined first then (with_step vs step)
 
 pub rules_split :
-    (s : Statuses) (log : List TransactionRecord) (first then : List RowStep) (vs : List Version)
-    → StepsRule s log vs (first ++ then) → StepsRule s log vs first × StepsRule s log (with_steps vs first) then
+    (from : LogOrigin) (log : List Rec) (first then : List RowStep) (vs : List Version)
+    → StepsRule from log vs (first ++ then) → StepsRule from log vs first × StepsRule from log (with_steps vs first) then
 unfolding with_steps
-rules_split s log [] then vs rule = (tt, rule)
-rules_split s log (step ∷ first) then vs (rule, rest) =
-    let (a, b) = rules_split s log first then (with_step vs step) rest in ((rule, a), b)
+rules_split from log [] then vs rule = (tt, rule)
+rules_split from log (step ∷ first) then vs (rule, rest) =
+    let (a, b) = rules_split from log first then (with_step vs step) rest in ((rule, a), b)
 
 -- a step's rule depends on the versions of its block alone
 rule_same :
-    (s : Statuses) (log : List TransactionRecord) (vs ws : List Version) (step : RowStep)
-    → SameIn (block_of step) vs ws → StepRule s log vs step → StepRule s log ws step
-rule_same s log vs ws (Born block line tuple) same rule =
+    (from : LogOrigin) (log : List Rec) (vs ws : List Version) (step : RowStep)
+    → SameIn (block_of step) vs ws → StepRule from log vs step → StepRule from log ws step
+rule_same from log vs ws (Born whole block line tuple) same rule =
     record {
-      free = sym (same line) ∙ rule.free;
-      live = rule.live;
-      unmarked = rule.unmarked;
-      deleter = rule.deleter;
-      marks = rule.marks;
+      table = rule.table;
+      horizon = rule.horizon;
+      births =
+          record {
+            free = sym (same line) ∙ rule.births.free;
+            live = rule.births.live;
+            inserter = rule.births.inserter;
+            unmarked = rule.births.unmarked;
+            spent = rule.births.spent;
+          };
+      deleters = tt;
+      removals = tt;
+      multixacts = rule.multixacts;
     }
-rule_same s log vs ws (Deleter block line d) same rule = rule
-rule_same s log vs ws (Undone block line) same rule = subst (λ (x : Option Version). UndoneRule s log x) (same line) rule
+rule_same from log vs ws (Deleter block line d) same rule =
+    record {
+      table = rule.table;
+      horizon = rule.horizon;
+      births = tt;
+      deleters = subst (λ (x : Option Version). IfVersion x (λ v. MayFollow from log v d)) (same line) rule.deleters;
+      removals = tt;
+      multixacts = rule.multixacts;
+    }
+rule_same from log vs ws (Undone block line) same rule =
+    record {
+      table = rule.table;
+      horizon = rule.horizon;
+      births = tt;
+      deleters = subst (λ (x : Option Version). IfVersion x (MayUndo from log)) (same line) rule.deleters;
+      removals = tt;
+      multixacts = tt;
+    }
+rule_same from log vs ws (Removed block line) same rule =
+    record {
+      table = rule.table;
+      horizon = rule.horizon;
+      births = tt;
+      deleters = tt;
+      removals = subst (λ (x : Option Version). IfVersion x (MayBeRemoved from log rule.horizon)) (same line) rule.removals;
+      multixacts = tt;
+    }
+rule_same from log vs ws (Frozen block line plan) same rule =
+    record {
+      table = rule.table;
+      horizon = rule.horizon;
+      births = tt;
+      deleters = subst (λ (x : Option Version). IfVersion x (λ v. MayFollow from log v (deleter_of_plan plan))) (same line) rule.deleters;
+      removals = subst (λ (x : Option Version). IfVersion x (PlanRule from log rule.horizon plan)) (same line) rule.removals;
+      multixacts = rule.multixacts;
+    }
 
 pub rules_same :
-    (s : Statuses) (log : List TransactionRecord) (block : ℕ) (steps : List RowStep) (vs ws : List Version)
-    → AllIn block steps → SameIn block vs ws → StepsRule s log vs steps → StepsRule s log ws steps
-rules_same s log block [] vs ws there same rule = tt
-rules_same s log block (step ∷ steps) vs ws (here, there) same (rule, rules) = (
-  rule_same s log vs ws step (subst (λ (b : ℕ). SameIn b vs ws) (sym here) same) rule,
-  rules_same s log block steps (with_step vs step) (with_step ws step) there (step_same block vs ws step same) rules,
+    (from : LogOrigin) (log : List Rec) (block : ℕ) (steps : List RowStep) (vs ws : List Version)
+    → AllIn block steps → SameIn block vs ws → StepsRule from log vs steps → StepsRule from log ws steps
+rules_same from log block [] vs ws there same rule = tt
+rules_same from log block (step ∷ steps) vs ws (here, there) same (rule, rules) = (
+  rule_same from log vs ws step (subst (λ (b : ℕ). SameIn b vs ws) (sym here) same) rule,
+  rules_same from log block steps (with_step vs step) (with_step ws step) there (step_same block vs ws step same) rules,
 )
 
 pub none_same : (block : ℕ) (vs ws : List Version) → SameIn block vs ws → HasNone vs block → HasNone ws block

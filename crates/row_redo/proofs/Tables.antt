@@ -6,7 +6,7 @@ use Rattle.pg_types.specs.declared.names.Locator.{Locator}
 use Rattle.wal_bodies.specs.HeapKinds.{same_locator}
 use Rattle.wal_bodies.specs.declared.types.Rec.{Rec}
 use Rattle.heap_redo.specs.Redone.{table_of}
-use Rattle.transaction_model.specs.Transactions.{Statuses}
+use Rattle.row_model.specs.Origins.{LogOrigin}
 use Rattle.row_model.specs.LegalRows.{LegalTable}
 
 pub same_file : (a b : Locator) → same_locator a b ≡ true → a ≡ b
@@ -34,8 +34,8 @@ module _ (known : List Locator) (locator : Locator) (table : ℕ) (here : table_
       let there = subst (λ (n : ℕ). same_locator (get_or known n locator) other ≡ true) e at in
       both_ways (same_locator locator other) h (subst (λ (l : Locator). same_locator l other ≡ true) described there)
 
-  -- the table's rows keep to the rules
-  pub legal_rows : (s : Statuses) (log : List Rec) → All (λ (d : Locator). LegalTable s d log) known → LegalTable s locator log
-  legal_rows s log all =
-      subst (λ (d : Locator). LegalTable s d log) described
+  -- the table keeps to its rules
+  pub legal_rows : (from : LogOrigin) (log : List Rec) → All (LegalTable from log) known → LegalTable from log locator
+  legal_rows from log all =
+      subst (LegalTable from log) described
       (all table locator (position-Some (λ (d : Locator). same_locator d locator) known table locator here).0)

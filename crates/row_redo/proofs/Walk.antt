@@ -12,10 +12,11 @@ use Rattle.wal_bodies.specs.HeapKinds.{same_locator}
 use Rattle.wal_bodies.specs.After.{BlockRefusal, applied}
 use Rattle.heap_redo.specs.declared.fault.RedoFault.{RedoFault}
 use Rattle.heap_redo.specs.Redone.{Seen, absent, bad_block, seen_page, View, Outcome, is_anew, is_left, or_zero_block, view_with, view_by, table_of, redone_block, redone_in, redone_at, and_then, redone}
-use Rattle.transaction_model.specs.Transactions.{Statuses, TransactionRecord}
+use Rattle.row_model.specs.Origins.{LogOrigin}
 use Rattle.row_model.specs.Versions.{Version, RowStep, version_at, with_steps}
 use Rattle.row_model.specs.RowSteps.{block_steps, steps_in, count_with}
-use Rattle.row_model.specs.LegalRows.{RecordFits, BlockFits, ImageRule, AnewRule, BlocksRule, StepsRule, same_block, are_apart}
+use Rattle.row_model.specs.LegalRows.{RecordFits, BlockFits, ImageRule, AnewRule, BlocksRule, same_block, are_apart}
+use Rattle.row_redo.proofs.Rules.{StepsRule}
 use Rattle.row_redo.proofs.Places.{SameIn, same_joined, steps_away, steps_joined, rules_split, none_same}
 use Rattle.row_redo.proofs.Own.{block_in}
 use Rattle.row_redo.proofs.Pages.{zeros_seen, none_fit}
@@ -85,23 +86,23 @@ behind_filled end bad_block no_items positive behind = behind
 behind_filled end (seen_page lsn items) no_items positive behind = behind
 
 holds_filled :
-    (s : Statuses) (log : List TransactionRecord) (vs ws : List Version) (count more at block : ℕ) (found : Seen) → ZerosHaveNone
-    → SameIn block vs ws → count ≤ more → block < more → Holds s log vs count at block found
-    → Holds s log ws more at block (or_zero_block found)
-holds_filled s log vs ws count more at block absent no_items same less below (end, none) =
-    subst (λ (zero_block : Seen). Holds s log ws more at block zero_block) (sym (zeros_seen no_items))
-    (below, omega arith, none_shows s log ws block (none_same block vs ws same none), none_fit)
-holds_filled s log vs ws count more at block bad_block no_items same less below holds = absurd holds
-holds_filled s log vs ws count more at block (seen_page lsn items) no_items same less below holds =
-    holds_same s log vs ws count more at block (seen_page lsn items) same less (λ end. absurd (let (in_table, rest, shows, fits) = holds in omega arith)) holds
+    (from : LogOrigin) (log : List Rec) (vs ws : List Version) (count more at block : ℕ) (found : Seen) → ZerosHaveNone
+    → SameIn block vs ws → count ≤ more → block < more → Holds from log vs count at block found
+    → Holds from log ws more at block (or_zero_block found)
+holds_filled from log vs ws count more at block absent no_items same less below (end, none) =
+    subst (λ (zero_block : Seen). Holds from log ws more at block zero_block) (sym (zeros_seen no_items))
+    (below, omega arith, none_shows from log ws block (none_same block vs ws same none), none_fit)
+holds_filled from log vs ws count more at block bad_block no_items same less below holds = absurd holds
+holds_filled from log vs ws count more at block (seen_page lsn items) no_items same less below holds =
+    holds_same from log vs ws count more at block (seen_page lsn items) same less (λ end. absurd (let (in_table, rest, shows, fits) = holds in omega arith)) holds
 
 -- the tables, the record, and the versions and blocks of this table before it and after it
-module _ (keep : TuplesKeepRule) (no_items : ZerosHaveNone) (s : Statuses) (log : List TransactionRecord) (rec : Rec)
+module _ (keep : TuplesKeepRule) (no_items : ZerosHaveNone) (from : LogOrigin) (log : List Rec) (rec : Rec)
     (known : List Locator) (locator : Locator) (table : ℕ) (here : table_of known locator ≡ Some table) (positive : 0 < rec.end.0)
     (count : ℕ) (vs last : List Version) (record_fits : RecordFits rec) where
   -- where redo of the record stands, with these blocks to come
   pub record Stage (view : View) (ws : List Version) (now : ℕ) (xs : List RecBlock) : Type 0 where
-    pub holds : (b : ℕ) → Holds s log ws now rec.end.0 b (view table b)
+    pub holds : (b : ℕ) → Holds from log ws now rec.end.0 b (view table b)
     pub behind : (b : ℕ) → Comes locator b xs → IsBehind rec.end.0 (view table b)
     pub same : (b : ℕ) → Comes locator b xs → SameIn b vs ws
 
@@ -111,7 +112,7 @@ module _ (keep : TuplesKeepRule) (no_items : ZerosHaveNone) (s : Statuses) (log 
       → ((b : ℕ) → next table b ≡ view table b) → Stage view ws now (x ∷ xs) → Stage next ws now xs
   stage_still x xs view next ws now still stage =
       record {
-        holds = λ b. subst (λ (found : Seen). Holds s log ws now rec.end.0 b found) (sym (still b)) (stage.holds b);
+        holds = λ b. subst (λ (found : Seen). Holds from log ws now rec.end.0 b found) (sym (still b)) (stage.holds b);
         behind = λ b comes. subst (λ (found : Seen). IsBehind rec.end.0 found) (sym (still b)) (stage.behind b (inr comes));
         same = λ b comes. stage.same b (inr comes);
       }
@@ -163,27 +164,27 @@ module _ (keep : TuplesKeepRule) (no_items : ZerosHaveNone) (s : Statuses) (log 
   -- what holds of the table's blocks once this one was changed
   changed_holds :
       (x : RecBlock) (view : View) (left : Seen) (ws after : List Version) (now more : ℕ) → more ≡ max now (x.block + 1)
-      → ((b : ℕ) → (b ≡ x.block → ⊥) → SameIn b ws after) → ((b : ℕ) → Holds s log ws now rec.end.0 b (view table b))
-      → IsChanged s log rec x now after left
-      → (b : ℕ) → Holds s log after more rec.end.0 b (view_with rec x view (tag_of x) left table b)
+      → ((b : ℕ) → (b ≡ x.block → ⊥) → SameIn b ws after) → ((b : ℕ) → Holds from log ws now rec.end.0 b (view table b))
+      → IsChanged from log rec x now after left
+      → (b : ℕ) → Holds from log after more rec.end.0 b (view_with rec x view (tag_of x) left table b)
   unfolding tag_of
   changed_holds x view left ws after now more size still holds changed b =
       let next : View = view_with rec x view (tag_of x) left in
       elim (cases_eq b x.block) [
         | inl e ↦
-            subst (λ (n : ℕ). Holds s log after more rec.end.0 n (next table n)) (sym e)
-            (subst (λ (found : Seen). Holds s log after more rec.end.0 x.block found)
+            subst (λ (n : ℕ). Holds from log after more rec.end.0 n (next table n)) (sym e)
+            (subst (λ (found : Seen). Holds from log after more rec.end.0 x.block found)
             (sym (view_at rec x view (tag_of x) left ∙ changed.is))
             (omega arith, omega arith, changed.shows, changed.fits))
         | inr other ↦
             elim (besides x view left now changed.not_left changed.there b other) [
               | inl (is, past) ↦
-                  subst (λ (found : Seen). Holds s log after more rec.end.0 b found) (sym is)
-                  (holds_same s log ws after now more rec.end.0 b (view table b) (still b other) (omega arith)
+                  subst (λ (found : Seen). Holds from log after more rec.end.0 b found) (sym is)
+                  (holds_same from log ws after now more rec.end.0 b (view table b) (still b other) (omega arith)
                   (λ end. let h = past end in omega arith) (holds b))
               | inr (is, less) ↦
-                  subst (λ (found : Seen). Holds s log after more rec.end.0 b found) (sym is)
-                  (holds_filled s log ws after now more rec.end.0 b (view table b) no_items (still b other) (omega arith)
+                  subst (λ (found : Seen). Holds from log after more rec.end.0 b found) (sym is)
+                  (holds_filled from log ws after now more rec.end.0 b (view table b) no_items (still b other) (omega arith)
                   (omega arith) (holds b))
             ]
       ]
@@ -191,7 +192,7 @@ module _ (keep : TuplesKeepRule) (no_items : ZerosHaveNone) (s : Statuses) (log 
   stage_changed :
       (x : RecBlock) (xs : List RecBlock) (view : View) (left : Seen) (ws : List Version) (now : ℕ)
       → Stage view ws now (x ∷ xs) → (Comes locator x.block xs → ⊥)
-      → IsChanged s log rec x now (with_steps ws (block_steps rec x count vs)) left
+      → IsChanged from log rec x now (with_steps ws (block_steps rec x count vs)) left
       → Stage (view_with rec x view (tag_of x) left) (with_steps ws (block_steps rec x count vs)) (max now (x.block + 1)) xs
   unfolding tag_of
   stage_changed x xs view left ws now stage away changed =
@@ -229,7 +230,7 @@ module _ (keep : TuplesKeepRule) (no_items : ZerosHaveNone) (s : Statuses) (log 
       (x : RecBlock) (xs : List RecBlock) (view : View) (left : Seen) (ws : List Version) (now : ℕ)
       → Stage view ws now (x ∷ xs) → (Comes locator x.block xs → ⊥)
       → IsKept rec x (block_steps rec x count vs) (view table x.block) left
-      ⊎ IsChanged s log rec x now (with_steps ws (block_steps rec x count vs)) left
+      ⊎ IsChanged from log rec x now (with_steps ws (block_steps rec x count vs)) left
       → Stage (view_with rec x view (tag_of x) left) (with_steps ws (block_steps rec x count vs))
       (cond (not (is_left rec x)) (max now (x.block + 1)) now) xs
   unfolding with_steps
@@ -247,9 +248,9 @@ module _ (keep : TuplesKeepRule) (no_items : ZerosHaveNone) (s : Statuses) (log 
   stage_own :
       (x : RecBlock) (xs : List RecBlock) (view next : View) (ws : List Version) (now : ℕ)
       → same_locator locator x.locator ≡ true → redone_at rec known x view ≡ Ok next → Stage view ws now (x ∷ xs)
-      → BlockFits x → (Comes locator x.block xs → ⊥) → StepsRule s log ws (block_steps rec x count vs)
+      → BlockFits x → (Comes locator x.block xs → ⊥) → StepsRule from log ws (block_steps rec x count vs)
       → SameIn x.block last (with_steps ws (block_steps rec x count vs))
-      → ImageRule s log last x.block (applied x.image) → AnewRule vs x
+      → ImageRule from log last x.block (applied x.image) → AnewRule vs x
       → Stage next (with_steps ws (block_steps rec x count vs)) (cond (not (is_left rec x)) (max now (x.block + 1)) now) xs
   unfolding redone_at tag_of
   stage_own x xs view next ws now own done stage fits away rule later image anew =
@@ -258,16 +259,16 @@ module _ (keep : TuplesKeepRule) (no_items : ZerosHaveNone) (s : Statuses) (log 
       (sym (ap (redone_in rec x view) found) ∙ done) in
       subst (λ (v : View). Stage v (with_steps ws (block_steps rec x count vs)) (cond (not (is_left rec x)) (max now (x.block + 1)) now) xs) (sym is)
       (stage_left x xs view left ws now stage away
-      (one_block keep s log rec x count now vs ws last record_fits fits (stage.same x.block (inl (own, refl))) rule anew later
+      (one_block keep from log rec x count now vs ws last record_fits fits (stage.same x.block (inl (own, refl))) rule anew later
       (view table x.block) left (stage.holds x.block) (stage.behind x.block (inl (own, refl))) image ok))
 
   stage_step :
       (x : RecBlock) (xs : List RecBlock) (view next : View) (ws : List Version) (now : ℕ) (t : Bool)
       → same_locator locator x.locator ≡ t → redone_at rec known x view ≡ Ok next → Stage view ws now (x ∷ xs)
       → BlockFits x → list_all (λ y. not (same_block x y)) xs ≡ true
-      → StepsRule s log ws (cond t (block_steps rec x count vs) [])
+      → StepsRule from log ws (cond t (block_steps rec x count vs) [])
       → last ≡ with_steps (with_steps ws (cond t (block_steps rec x count vs) [])) (steps_in rec locator count vs xs)
-      → (t ≡ true → ImageRule s log last x.block (applied x.image) × AnewRule vs x)
+      → (t ≡ true → ImageRule from log last x.block (applied x.image) × AnewRule vs x)
       → Stage next (with_steps ws (cond t (block_steps rec x count vs) [])) (cond (t && not (is_left rec x)) (max now (x.block + 1)) now) xs
   unfolding with_steps
   stage_step x xs view next ws now true own done stage fits apart rule is blocks =
@@ -283,8 +284,8 @@ module _ (keep : TuplesKeepRule) (no_items : ZerosHaveNone) (s : Statuses) (log 
   -- all blocks of the record
   pub walk :
       (xs : List RecBlock) (view after : View) (ws : List Version) (now : ℕ) → are_apart xs ≡ true → All BlockFits xs
-      → StepsRule s log ws (steps_in rec locator count vs xs) → last ≡ with_steps ws (steps_in rec locator count vs xs)
-      → BlocksRule s log locator vs last xs → Stage view ws now xs → redone rec known xs view ≡ (after, Ok tt)
+      → StepsRule from log ws (steps_in rec locator count vs xs) → last ≡ with_steps ws (steps_in rec locator count vs xs)
+      → BlocksRule from locator log vs last xs → Stage view ws now xs → redone rec known xs view ≡ (after, Ok tt)
       → Stage after last (count_with rec locator now xs) []
   unfolding redone steps_in count_with are_apart with_steps
   walk [] view after ws now apart fits rule is blocks stage done =
@@ -296,9 +297,9 @@ module _ (keep : TuplesKeepRule) (no_items : ZerosHaveNone) (s : Statuses) (log 
       let then : List RowStep = steps_in rec locator count vs xs in
       let (first_apart, rest_apart) = and_parts (list_all (λ y. not (same_block x y)) xs) (are_apart xs) apart in
       let (next, ok, rest) = goes_on view after (redone_at rec known x view) (λ v. redone rec known xs v) done in
-      let (first_rule, rest_rule) = rules_split s log first then ws rule in
+      let (first_rule, rest_rule) = rules_split from log first then ws rule in
       let Rule : RecBlock → Type 0 = λ block. same_locator locator block.locator ≡ true
-      → ImageRule s log last block.block (applied block.image) × AnewRule vs block in
+      → ImageRule from log last block.block (applied block.image) × AnewRule vs block in
       let joined : last ≡ with_steps (with_steps ws first) then = is ∙ steps_joined first then ws in
       walk xs next after (with_steps ws first) (cond (t && not (is_left rec x)) (max now (x.block + 1)) now) rest_apart
       (All-tail BlockFits x xs fits) rest_rule joined (All-tail Rule x xs blocks)

@@ -1,7 +1,6 @@
 -- A snapshot that decides as the log does sees exactly the rows.
-use Rattle.std.proofs.Common.{◌≡◌, ℕ, Bool, true, false, not, ◌&&◌, ◌||◌, ◌==◌, cond, List, Result, Ok, refl, sym, ap, ◌∙◌}
+use Rattle.std.proofs.Common.{◌≡◌, ℕ, Bool, true, false, not, ◌&&◌, ◌||◌, ◌==◌, cond, List, Some, Result, Ok, refl, sym, ap, ◌∙◌}
 use Rattle.std.proofs.lemmas.Bool.{eqb-true, eq-eqb, false≢true, true≢false}
-use Rattle.pg_types.specs.declared.names.Xid.{Xid}
 use Rattle.pg_types.specs.declared.status.Status.{Status}
 use Rattle.pg_types.specs.declared.status.Unknown.{Unknown}
 use Rattle.heap_tuple.specs.Tuple.{has_bits, infomask_of, max_of, xmin_of}
@@ -9,11 +8,14 @@ use Rattle.heap_tuple.specs.declared.tuple_view.MaxOf.{MaxOf}
 use Rattle.heap_tuple.specs.declared.tuple_view.MaxOf.TheVariants.{None as NoDeleter, Xid as DeletedBy, Multi}
 use Rattle.standby_snapshot.specs.Snapshot.{SnapshotData, in_progress, no_parents, take_of}
 use Rattle.tuple_visibility.specs.Visible.{counts, deleter_counts, deleter_of, inserter_counts, is_committed, unless_deleted, visible_of, xmin_marks}
-use Rattle.transaction_model.specs.Transactions.{TransactionRecord, Statuses, committed}
 use Rattle.transaction_model.specs.TransactionLaws.{IdsDecide, StateAgrees}
-use Rattle.row_model.specs.Versions.{Version, Inserter, Nobody, Always, By}
+use Rattle.wal_bodies.specs.declared.types.Rec.{Rec}
+use Rattle.row_model.specs.Versions.{Version, Inserter, Nobody, Always, By, is_frozen}
+use Rattle.row_model.specs.Origins.{LogOrigin, committed_in}
+use Rattle.row_model.specs.Multixacts.{WasMade, deleter_in, multixacts}
 use Rattle.row_model.specs.Rows.{counts as inserter_is_in, is_deleted, is_row}
-use Rattle.row_model.specs.LegalRows.{AreMarksTrue, IsSingle, Shows, ShowsDeleter, ShowsInserter}
+use Rattle.row_model.specs.Shows.{AreMarksTrue, Shows, ShowsDeleter, ShowsInserter}
+use Rattle.row_model.specs.Shown.{IsSound}
 use Rattle.xact_redo.specs.TransactionsOf.{transactions_of}
 use Rattle.xact_redo.specs.Sees.{no_multixacts}
 use Rattle.row_visibility.specs.Sees.{SeesRows, state_along}
@@ -53,117 +55,125 @@ seen_is i true e d same gone =
     ap (λ (t : Bool). cond t (unless_deleted d) (Ok false)) same ∙ ap unless_deleted (gone refl)
 seen_is i false e d same gone = ap (λ (t : Bool). cond t (unless_deleted d) (Ok false)) same
 
-module _ (s : Statuses) (log : List TransactionRecord) (snapshot : SnapshotData) (statuses : ℕ → Status)
-    (decided : (x : ℕ) → (not (in_progress snapshot no_parents x) && committed s x log) ≡ committed s x log)
-    (same : (x : ℕ) → is_committed (statuses x) ≡ committed s x log) (zero : committed s 0 log ≡ false) where
+module _ (o : LogOrigin) (log : List Rec) (snapshot : SnapshotData) (statuses : ℕ → Status)
+    (decided : (x : ℕ) → (not (in_progress snapshot no_parents x) && committed_in o log x) ≡ committed_in o log x)
+    (same : (x : ℕ) → is_committed (statuses x) ≡ committed_in o log x) (zero : committed_in o log 0 ≡ false) where
   -- an id counts exactly where it committed
   counts_is :
-      (marked : Bool) (x : ℕ) → (marked ≡ true → committed s x log ≡ true)
-      → counts snapshot no_parents statuses marked x ≡ committed s x log
+      (marked : Bool) (x : ℕ) → (marked ≡ true → committed_in o log x ≡ true)
+      → counts snapshot no_parents statuses marked x ≡ committed_in o log x
   counts_is marked x h =
       ap (λ (t : Bool). not (in_progress snapshot no_parents x) && (marked || t)) (same x)
-      ∙ ap (λ (t : Bool). not (in_progress snapshot no_parents x) && t) (marked_or marked (committed s x log) h)
+      ∙ ap (λ (t : Bool). not (in_progress snapshot no_parents x) && t) (marked_or marked (committed_in o log x) h)
       ∙ decided x
 
   deleter_is :
-      (d : MaxOf) (invalid marked : Bool) → IsSingle d
-      → ((x : Xid) → d ≡ DeletedBy x → invalid ≡ true → committed s x.0 log ≡ false)
-      → ((x : Xid) → d ≡ DeletedBy x → marked ≡ true → committed s x.0 log ≡ true)
+      (d : MaxOf) (invalid marked : Bool) → WasMade log d
+      → ((x : ℕ) → deleter_in log d ≡ Some x → invalid ≡ true → committed_in o log x ≡ false)
+      → ((x : ℕ) → deleter_in log d ≡ Some x → marked ≡ true → committed_in o log x ≡ true)
       → deleter_counts snapshot no_parents statuses no_multixacts marked (cond invalid NoDeleter d)
-      ≡ Ok (is_deleted (λ x. committed s x log) d)
-  deleter_is NoDeleter true marked single failed done = refl
-  deleter_is NoDeleter false marked single failed done = refl
-  deleter_is (DeletedBy x) true marked single failed done = ap Ok (sym (failed x refl refl))
-  deleter_is (DeletedBy x) false marked single failed done = ap Ok (counts_is marked x.0 (done x refl))
-  deleter_is (Multi id) invalid marked single failed done = absurd single
+      ≡ Ok (is_deleted (multixacts log) (committed_in o log) d)
+  deleter_is NoDeleter true marked made failed done = refl
+  deleter_is NoDeleter false marked made failed done = refl
+  deleter_is (DeletedBy x) true marked made failed done = ap Ok (sym (failed x.0 refl refl))
+  deleter_is (DeletedBy x) false marked made failed done = ap Ok (counts_is marked x.0 (done x.0 refl))
+  deleter_is (Multi id) invalid marked (updater, is) failed done = cc
 
   -- the deleter that a tuple shows
   deleter_shown :
-      (v : Version) (tuple : List ℕ) → max_of tuple ≡ v.deleter → AreMarksTrue s log v tuple → IsSingle v.deleter
+      (v : Version) (tuple : List ℕ) → max_of tuple ≡ v.deleter → AreMarksTrue o log v tuple → WasMade log v.deleter
       → deleter_counts snapshot no_parents statuses no_multixacts (has_bits (infomask_of tuple) 0x0400) (deleter_of tuple)
-      ≡ Ok (is_deleted (λ x. committed s x log) v.deleter)
+      ≡ Ok (is_deleted (multixacts log) (committed_in o log) v.deleter)
   unfolding deleter_of
-  deleter_shown v tuple is marks single =
+  deleter_shown v tuple is marks made =
       ap (λ (d : MaxOf).
       deleter_counts snapshot no_parents statuses no_multixacts (has_bits (infomask_of tuple) 0x0400)
       (cond (has_bits (infomask_of tuple) 0x0800) NoDeleter d))
       is
-      ∙ deleter_is v.deleter (has_bits (infomask_of tuple) 0x0800) (has_bits (infomask_of tuple) 0x0400) single
+      ∙ deleter_is v.deleter (has_bits (infomask_of tuple) 0x0800) (has_bits (infomask_of tuple) 0x0400) made
       (λ x e h. (marks.deleter_failed x e h).not_committed) marks.deleter_committed
 
   -- with these marks and this xmin
   inserter_tests :
-      (m n : ℕ) → (m == 0x0300) ≡ false → (m ≡ 0x0200 → committed s n log ≡ false) → (m ≡ 0x0100 → committed s n log ≡ true)
+      (m n : ℕ) → (m == 0x0300) ≡ false → (m ≡ 0x0200 → committed_in o log n ≡ false)
+      → (m ≡ 0x0100 → committed_in o log n ≡ true)
       → ((m == 0x0300)
       || (n == 1)
       || (n == 2)
       || (not (n == 0) && not (m == 0x0200) && counts snapshot no_parents statuses (m == 0x0100) n))
-      ≡ committed s n log
+      ≡ committed_in o log n
   inserter_tests m n thawed failed done =
       tests_of_inserter (m == 0x0300) (n == 1) (n == 2) (n == 0) (m == 0x0200)
-      (counts snapshot no_parents statuses (m == 0x0100) n) (committed s n log) thawed (first_committed s log n)
-      (λ h. ap (λ (x : ℕ). committed s x log) (eqb-true n 0 h) ∙ zero) (λ h. failed (eqb-true m 0x0200 h))
+      (counts snapshot no_parents statuses (m == 0x0100) n) (committed_in o log n) thawed
+      (first_committed o.transactions.at (transactions_of log) n)
+      (λ h. ap (committed_in o log) (eqb-true n 0 h) ∙ zero) (λ h. failed (eqb-true m 0x0200 h))
       (counts_is (m == 0x0100) n (λ h. done (eqb-true m 0x0100 h)))
 
   -- a transaction's insertion counts exactly where it committed
   inserter_by :
-      (tuple : List ℕ) (x : ℕ) → xmin_of tuple ≡ x → (xmin_marks tuple == 0x0300) ≡ false
-      → (xmin_marks tuple ≡ 0x0200 → committed s x log ≡ false)
-      → (xmin_marks tuple ≡ 0x0100 → committed s x log ≡ true)
-      → inserter_counts tuple snapshot no_parents statuses ≡ committed s x log
+      (tuple : List ℕ) (x : ℕ) → xmin_of tuple ≡ x → is_frozen tuple ≡ false
+      → (xmin_marks tuple ≡ 0x0200 → committed_in o log x ≡ false)
+      → (xmin_marks tuple ≡ 0x0100 → committed_in o log x ≡ true)
+      → inserter_counts tuple snapshot no_parents statuses ≡ committed_in o log x
   unfolding inserter_counts
   inserter_by tuple x is thawed failed done =
-      let at_x : committed s (xmin_of tuple) log ≡ committed s x log = ap (λ (n : ℕ). committed s n log) is in
+      let at_x : committed_in o log (xmin_of tuple) ≡ committed_in o log x = ap (committed_in o log) is in
       inserter_tests (xmin_marks tuple) (xmin_of tuple) thawed (λ e. at_x ∙ failed e) (λ e. at_x ∙ done e) ∙ at_x
 
   -- an insertion that was taken back does not count
   inserter_gone :
-      (tuple : List ℕ) → xmin_of tuple ≡ 0 → (xmin_marks tuple == 0x0300) ≡ false
+      (tuple : List ℕ) → xmin_of tuple ≡ 0 → is_frozen tuple ≡ false
       → inserter_counts tuple snapshot no_parents statuses ≡ false
   unfolding inserter_counts
   inserter_gone tuple is thawed =
       tests_of_none (xmin_marks tuple == 0x0300) (xmin_marks tuple == 0x0200)
       (counts snapshot no_parents statuses (xmin_marks tuple == 0x0100) (xmin_of tuple)) (xmin_of tuple) thawed is
 
-  -- one that was born frozen does
+  -- one whose tuple is frozen does
   inserter_frozen :
-      (tuple : List ℕ) → xmin_marks tuple ≡ 0x0300 → inserter_counts tuple snapshot no_parents statuses ≡ true
+      (tuple : List ℕ) → is_frozen tuple ≡ true → inserter_counts tuple snapshot no_parents statuses ≡ true
   unfolding inserter_counts
   inserter_frozen tuple is =
       tests_of_frozen (xmin_marks tuple == 0x0300) (xmin_of tuple == 1) (xmin_of tuple == 2)
       (not (xmin_of tuple == 0)
       && not (xmin_marks tuple == 0x0200)
       && counts snapshot no_parents statuses (xmin_marks tuple == 0x0100) (xmin_of tuple))
-      (eq-eqb (xmin_marks tuple) 0x0300 is)
+      is
 
-  sees_by :
-      (v : Version) (tuple : List ℕ) (i : Inserter) → v.inserter ≡ i → ShowsInserter tuple i
-      → ShowsDeleter tuple i v.deleter → AreMarksTrue s log v tuple → IsSingle v.deleter
-      → visible_of tuple snapshot no_parents statuses no_multixacts
-      ≡ Ok (inserter_is_in (λ x. committed s x log) i && not (is_deleted (λ x. committed s x log) v.deleter))
-  unfolding visible_of
-  sees_by v tuple Nobody by (is, thawed) deleter marks single =
-      seen_is (inserter_counts tuple snapshot no_parents statuses) false (is_deleted (λ x. committed s x log) v.deleter)
-      (deleter_counts snapshot no_parents statuses no_multixacts (has_bits (infomask_of tuple) 0x0400) (deleter_of tuple))
-      (inserter_gone tuple is thawed) (λ h. absurd (false≢true h))
-  sees_by v tuple Always by frozen deleter marks single =
-      seen_is (inserter_counts tuple snapshot no_parents statuses) true (is_deleted (λ x. committed s x log) v.deleter)
-      (deleter_counts snapshot no_parents statuses no_multixacts (has_bits (infomask_of tuple) 0x0400) (deleter_of tuple))
-      (inserter_frozen tuple frozen) (λ h. deleter_shown v tuple deleter marks single)
-  sees_by v tuple (By x) by (is, thawed) deleter marks single =
-      seen_is (inserter_counts tuple snapshot no_parents statuses) (committed s x log)
-      (is_deleted (λ y. committed s y log) v.deleter)
-      (deleter_counts snapshot no_parents statuses no_multixacts (has_bits (infomask_of tuple) 0x0400) (deleter_of tuple))
-      (inserter_by tuple x is thawed (λ e. (marks.inserter_failed x by e).not_committed) (marks.inserter_committed x by))
-      (λ h. deleter_shown v tuple deleter marks single)
+  -- an inserter counts where the tuple shows it, frozen only where it counts
+  inserter_is :
+      (v : Version) (tuple : List ℕ) (i : Inserter) (frozen : Bool) → v.inserter ≡ i → is_frozen tuple ≡ frozen
+      → (frozen ≡ true → inserter_is_in (committed_in o log) i ≡ true) → ShowsInserter tuple i → AreMarksTrue o log v tuple
+      → inserter_counts tuple snapshot no_parents statuses ≡ inserter_is_in (committed_in o log) i
+  inserter_is v tuple i true by frozen counted shows marks = inserter_frozen tuple frozen ∙ sym (counted refl)
+  inserter_is v tuple Nobody false by thawed counted shows marks = inserter_gone tuple shows thawed
+  inserter_is v tuple Always false by thawed counted shows marks = absurd (false≢true (sym thawed ∙ shows))
+  inserter_is v tuple (By x) false by thawed counted shows marks =
+      inserter_by tuple x shows thawed (λ e. (marks.inserter_failed x by e).not_committed) (marks.inserter_committed x by)
+
+  -- a deleter matters where the inserter counts
+  deleter_by :
+      (v : Version) (tuple : List ℕ) (i : Inserter) → ShowsDeleter tuple i v.deleter → AreMarksTrue o log v tuple
+      → WasMade log v.deleter → inserter_is_in (committed_in o log) i ≡ true
+      → deleter_counts snapshot no_parents statuses no_multixacts (has_bits (infomask_of tuple) 0x0400) (deleter_of tuple)
+      ≡ Ok (is_deleted (multixacts log) (committed_in o log) v.deleter)
+  deleter_by v tuple Nobody shows marks made h = absurd (false≢true h)
+  deleter_by v tuple Always shows marks made h = deleter_shown v tuple shows marks made
+  deleter_by v tuple (By x) shows marks made h = deleter_shown v tuple shows marks made
 
   pub sees_is :
-      (v : Version) (tuple : List ℕ) → Shows s log v tuple → IsSingle v.deleter
-      → visible_of tuple snapshot no_parents statuses no_multixacts ≡ Ok (is_row (λ x. committed s x log) v)
-  sees_is v tuple shows single = sees_by v tuple v.inserter refl shows.inserter shows.deleter shows.marks single
+      (v : Version) (tuple : List ℕ) → Shows o log v tuple → IsSound o log v
+      → visible_of tuple snapshot no_parents statuses no_multixacts ≡ Ok (is_row (multixacts log) (committed_in o log) v)
+  unfolding visible_of
+  sees_is v tuple shows sound =
+      seen_is (inserter_counts tuple snapshot no_parents statuses) (inserter_is_in (committed_in o log) v.inserter)
+      (is_deleted (multixacts log) (committed_in o log) v.deleter)
+      (deleter_counts snapshot no_parents statuses no_multixacts (has_bits (infomask_of tuple) 0x0400) (deleter_of tuple))
+      (inserter_is v tuple v.inserter (is_frozen tuple) refl refl (λ h. sound.frozen (sym shows.frozen ∙ h)) shows.inserter shows.marks)
+      (deleter_by v tuple v.inserter shows.deleter shows.marks sound.made)
 
 pub sees_along : StateAgrees → IdsDecide → SeesRows
-sees_along agrees decide o log none legal ready v tuple shows single =
-    sees_is o.at (transactions_of log) (take_of (state_along log).known) (state_along log).statuses
-    (decided_along agrees decide o log none legal ready) (committed_along o log none legal)
-    (zero_not_committed o (transactions_of log) legal) v tuple shows single
+sees_along agrees decide o log none legal ready v tuple shows sound =
+    sees_is o log (take_of (state_along log).known) (state_along log).statuses
+    (decided_along agrees decide o.transactions log none legal ready) (committed_along o.transactions log none legal)
+    (zero_not_committed o.transactions (transactions_of log) legal) v tuple shows sound

@@ -1,5 +1,6 @@
 -- The worked log's tuples are seen as worked by hand.
 use Rattle.std.proofs.Common.{refl, arith}
+use Rattle.std.proofs.lemmas.Bool.{false≢true}
 use Rattle.pg_types.specs.Numbers.{number_at}
 use Rattle.heap_tuple.specs.Tuple.{is_lock_only, max_of}
 use Rattle.known_assigned.specs.Known.{after_end, after_observe, after_running, made_anew, past_oldest, unobserved}
@@ -7,17 +8,18 @@ use Rattle.standby_snapshot.specs.Snapshot.{in_progress, take_of}
 use Rattle.tuple_visibility.specs.Visible.{deleter_of, inserter_counts, visible_of}
 use Rattle.xact_redo.specs.State.{before_records, state_after}
 use Rattle.xact_redo.specs.TransactionsOf.{transactions_of}
-use Rattle.row_model.specs.LegalRows.{Shows}
+use Rattle.row_model.specs.Shows.{Shows}
 use Rattle.row_model.specs.WorkedRows.{IsWorkedRows, second_row, worked_log, worked_origin}
 use Rattle.row_visibility.specs.Sees.{state_along}
 use Rattle.row_visibility.specs.WorkedSight.{IsWorkedSight}
 
-second_shown : Shows worked_origin.at (transactions_of worked_log) second_row second_row.tuple
+second_shown : Shows worked_origin worked_log second_row second_row.tuple
 unfolding number_at max_of is_lock_only
 second_shown =
     record {
       row = record { columns = refl; nulls = refl; bytes = refl };
-      inserter = (refl, refl);
+      inserter = refl;
+      frozen = refl;
       deleter = refl;
       marks =
           record {
@@ -36,6 +38,7 @@ worked_sight_is rows =
       legal = rows.legal.transactions;
       ready = refl;
       shows = second_shown;
+      sound = record { made = tt; frozen = λ h. absurd (false≢true h) };
       first_before = refl;
       second_before = refl;
       first_after = refl;

@@ -5,12 +5,15 @@ use Rattle.known_assigned.specs.declared.state.State.TheVariants.{Ready}
 use Rattle.standby_snapshot.specs.Snapshot.{take_of}
 use Rattle.xact_redo.specs.Sees.{sees}
 use Rattle.xact_redo.specs.State.{TransactionState, before_records, state_after}
-use Rattle.transaction_model.specs.Transactions.{Statuses, IsXmin, committed, state_of}
+use Rattle.transaction_model.specs.Transactions.{Statuses, IsXmin, state_of}
 use Rattle.transaction_model.specs.LegalTransactions.{Legal, Origin}
 use Rattle.xact_redo.specs.TransactionsOf.{transactions_of}
 use Rattle.row_model.specs.Versions.{Version}
 use Rattle.row_model.specs.Rows.{is_row}
-use Rattle.row_model.specs.LegalRows.{IsSingle, Shows}
+use Rattle.row_model.specs.Origins.{LogOrigin, committed_in}
+use Rattle.row_model.specs.Multixacts.{multixacts}
+use Rattle.row_model.specs.Shows.{Shows}
+use Rattle.row_model.specs.Shown.{IsSound}
 
 -- what a standby knows of transactions after a log, the newest record first
 unfoldable pub state_along : List Rec → TransactionState
@@ -35,6 +38,7 @@ XminAlong =
 -- a snapshot sees exactly the tuples whose versions are rows
 abbrev pub SeesRows : Type 0
 SeesRows =
-    (o : Origin) (log : List Rec) → HasNoStatuses o.at → Legal o (transactions_of log) → (state_along log).known.mode ≡ Ready
-    → (v : Version) (tuple : List ℕ) → Shows o.at (transactions_of log) v tuple → IsSingle v.deleter
-    → sees (state_along log) tuple ≡ Ok (is_row (λ x. committed o.at x (transactions_of log)) v)
+    (o : LogOrigin) (log : List Rec) → HasNoStatuses o.transactions.at → Legal o.transactions (transactions_of log)
+    → (state_along log).known.mode ≡ Ready
+    → (v : Version) (tuple : List ℕ) → Shows o log v tuple → IsSound o log v
+    → sees (state_along log) tuple ≡ Ok (is_row (multixacts log) (committed_in o log) v)

@@ -3,7 +3,8 @@ use Rattle.std.specs.Prelude.{◌≡◌, ℕ, true, false, List, ◌∷◌, Ok}
 use Rattle.known_assigned.specs.declared.state.State.TheVariants.{Ready}
 use Rattle.transaction_model.specs.LegalTransactions.{Legal}
 use Rattle.xact_redo.specs.TransactionsOf.{transactions_of}
-use Rattle.row_model.specs.LegalRows.{Shows}
+use Rattle.row_model.specs.Shows.{Shows}
+use Rattle.row_model.specs.Shown.{IsSound}
 use Rattle.row_model.specs.WorkedRows.{first_values, second_row, update_by_701, worked_first, worked_log, worked_origin}
 use Rattle.xact_redo.specs.Sees.{sees}
 use Rattle.row_visibility.specs.Sees.{HasNoStatuses, state_along}
@@ -20,10 +21,11 @@ replaced_tuple =
     ∷ first_values
 
 pub record IsWorkedSight : Type 0 where
-  pub none : HasNoStatuses worked_origin.at
-  pub legal : Legal worked_origin (transactions_of worked_log)
+  pub none : HasNoStatuses worked_origin.transactions.at
+  pub legal : Legal worked_origin.transactions (transactions_of worked_log)
   pub ready : (state_along worked_log).known.mode ≡ Ready
-  pub shows : Shows worked_origin.at (transactions_of worked_log) second_row second_row.tuple
+  pub shows : Shows worked_origin worked_log second_row second_row.tuple
+  pub sound : IsSound worked_origin worked_log second_row
   -- after the update, before 701 commits
   pub first_before : sees (state_along (update_by_701 ∷ worked_first)) replaced_tuple ≡ Ok true
   pub second_before : sees (state_along (update_by_701 ∷ worked_first)) second_row.tuple ≡ Ok false
