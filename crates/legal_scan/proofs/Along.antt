@@ -1,12 +1,15 @@
 -- What a standby knows along the log that it replays.
 use Rattle.std.proofs.Common.{◌≡◌, ◌<◌, ◌≤◌, ℕ, Bool, true, false, not, ◌||◌, List, [], ◌∷◌, Option, Some, None, Result, Ok, Err, arith, refl, sym, ap, subst, ◌∙◌}
-use Rattle.std.specs.Prelude.{is_some, if◌then◌else◌}
+use Rattle.std.proofs.Math.Path.{fun_ext}
+use Rattle.std.specs.Prelude.{is_some, slice_get, if◌then◌else◌}
+use Rattle.pg_types.specs.declared.names.Locator.{Locator}
 use Rattle.pg_types.specs.declared.names.Lsn.{Lsn}
 use Rattle.wal_bodies.specs.declared.types.Rec.{Rec}
 use Rattle.heap_redo.specs.declared.fault.RedoFault.{RedoFault}
-use Rattle.heap_redo.specs.Redone.{View, absent, redone}
+use Rattle.heap_redo.specs.Redone.{View, absent, redone, view_outcome}
 use Rattle.xact_redo.specs.State.{TransactionState, state_after}
-use Rattle.row_redo.specs.Shown.{Redoes}
+use Rattle.row_model.specs.RowSteps.{blocks_of, view_after, view_before, view_with_record}
+use Rattle.row_redo.specs.Shown.{Rises as RowsRise}
 use Rattle.row_visibility.specs.Sees.{state_along}
 use Rattle.standby_core.specs.Replay.{awaited_after, ends_backup}
 use Rattle.standby_core.specs.Standby.{Standby, at_origin}
@@ -15,32 +18,13 @@ use Rattle.standby_model.specs.Log.{end_of}
 use Rattle.scan_model.specs.Run.{applied, origin, redone_at, redone_on, replayed, start}
 use Rattle.scan_model.specs.Tables.{known}
 use Rattle.scan_model.proofs.Runs.{goes_on, led_before, redone_is, set_up, started}
-use Rattle.legal_scan.specs.Redone.{left_by, view_after, view_on}
-use Rattle.legal_scan.specs.Answer.{has_backup_ended}
+use Rattle.legal_scan.specs.Answer.{has_backup_ended, origin_with}
 
--- the blocks are those that the log leaves
-redone_to :
-    (rec : Rec) (was : View) (blocks view : View) → redone rec known rec.blocks was ≡ (blocks, Ok tt) → view ≡ blocks
-    → redone rec known rec.blocks was ≡ (view, Ok tt)
-redone_to rec was blocks view e f =
-    subst (λ (v : View). redone rec known rec.blocks was ≡ (v, Ok tt)) (sym f) e
-
-pub redoes :
-    (log : List Rec) (node : Standby) → Rises origin.redo.0 log → replayed log ≡ Ok node → Redoes known log node.blocks node.at.0
-unfolding at_origin
-redoes [] node rises e =
-    subst (λ (n : Standby). Redoes known [] n.blocks n.at.0) (sym (started node e)) (λ table block. refl)
-redoes (rec ∷ older) node (onward, rises) e =
-    let (was, before, here) = led_before rec (replayed older) node e in
-    let goes = goes_on rec was node here in
-    let at = (set_up older was before).at_is in (
-      was.blocks,
-      was.at.0,
-      redoes older was rises before,
-      redone_to rec was.blocks goes.blocks node.blocks goes.is_redone (ap (λ (n : Standby). n.blocks) goes.leads),
-      omega (arith, at, onward),
-      ap (λ (n : Standby). n.at.0) goes.leads,
-    )
+-- a log that rises from a position does
+pub rises_too : (from : ℕ) (log : List Rec) → Rises from log → RowsRise log
+rises_too from [] rises = tt
+rises_too from (rec ∷ []) (onward, rises) = (omega (arith, onward), tt)
+rises_too from (rec ∷ older ∷ log) (onward, rises) = (onward, rises_too from (older ∷ log) rises)
 
 -- what is known of transactions is what the log tells
 pub transactions_along : (log : List Rec) (node : Standby) → replayed log ≡ Ok node → node.transactions ≡ state_along log
@@ -91,8 +75,9 @@ past_redo from (rec ∷ older) (onward, rises) =
 
 -- where redo of the log meets no refusal, a standby replays it
 viewed_before :
-    (rec : Rec) (before : Result View RedoFault) (view : View) → view_on known rec before ≡ Ok view
-    → (was : View) × (before ≡ Ok was) × (left_by (redone rec known rec.blocks was).0 (redone rec known rec.blocks was).1 ≡ Ok view)
+    (rec : Rec) (before : Result View RedoFault) (view : View) → view_with_record rec known before ≡ Ok view
+    → (was : View) × (before ≡ Ok was) × (view_outcome (redone rec known rec.blocks was).0 (redone rec known rec.blocks was).1 ≡ Ok view)
+unfolding view_with_record
 viewed_before rec (Ok was) view e = (was, refl, e)
 viewed_before rec (Err fault) view e = cc
 
@@ -103,18 +88,38 @@ done_with : View → View × Result (Unit {0}) RedoFault
 done_with view = (view, Ok tt)
 
 left_is :
-    (outcome : View × Result (Unit {0}) RedoFault) (view : View) → left_by outcome.0 outcome.1 ≡ Ok view → outcome ≡ (view, Ok tt)
+    (outcome : View × Result (Unit {0}) RedoFault) (view : View) → view_outcome outcome.0 outcome.1 ≡ Ok view → outcome ≡ (view, Ok tt)
 left_is (blocks, Ok done) view e = ap done_with (one_view blocks view e)
 left_is (blocks, Err fault) view e = cc
 
+none_before : (top : ℕ → ℕ) (found : Option Locator) (block : ℕ) → absent ≡ blocks_of (origin_with top) found block
+none_before top None block = refl
+none_before top (Some table) block = refl
+
 pub replayed_where :
-    (log : List Rec) (view : View) → view_after known log ≡ Ok view
+    (top : ℕ → ℕ) (log : List Rec) (view : View) → view_after (origin_with top) known log ≡ Ok view
     → (node : Standby) × (replayed log ≡ Ok node) × (node.blocks ≡ view)
-unfolding at_origin
-replayed_where [] view e = (start, refl, one_view (λ table block. absent) view e)
-replayed_where (rec ∷ older) view e =
-    let (was, before, left) = viewed_before rec (view_after known older) view e in
-    let (node, leads, same) = replayed_where older was before in
+unfolding at_origin view_after
+replayed_where top [] view e = (
+  start,
+  refl,
+  fun_ext (λ table. fun_ext (λ block. none_before top (slice_get known table) block))
+      ∙ one_view (view_before (origin_with top) known) view e,
+)
+replayed_where top (rec ∷ older) view e =
+    let (was, before, left) = viewed_before rec (view_after (origin_with top) known older) view e in
+    let (node, leads, same) = replayed_where top older was before in
     let here : redone rec known rec.blocks node.blocks ≡ (view, Ok tt) =
     subst (λ (v : View). redone rec known rec.blocks v ≡ (view, Ok tt)) (sym same) (left_is (redone rec known rec.blocks was) view left) in
     (applied rec view node, ap (λ (r : Result Standby RedoFault). redone_on rec r) leads ∙ redone_is rec node view here, refl)
+
+one_node : (r : Result Standby RedoFault) (a b : Standby) → r ≡ Ok a → r ≡ Ok b → a ≡ b
+one_node r a b e f = cc
+
+-- and its blocks are those that redo leaves
+pub blocks_are :
+    (top : ℕ → ℕ) (log : List Rec) (view : View) (node : Standby) → view_after (origin_with top) known log ≡ Ok view
+    → replayed log ≡ Ok node → view ≡ node.blocks
+blocks_are top log view node e leads =
+    let (other, led, same) = replayed_where top log view e in
+    sym same ∙ ap (λ (n : Standby). n.blocks) (one_node (replayed log) other node led leads)

@@ -7,14 +7,16 @@ use Rattle.pg_types.specs.declared.names.Lsn.{Lsn}
 use Rattle.wal_bodies.specs.declared.types.Rec.{Rec}
 use Rattle.known_assigned.specs.declared.state.State.{State}
 use Rattle.known_assigned.specs.declared.state.State.TheVariants.{Initialized, Pending, Ready}
-use Rattle.heap_redo.specs.Redone.{Seen, absent, bad_block, seen_page, table_of}
+use Rattle.heap_redo.specs.Redone.{View, Seen, absent, bad_block, seen_page, table_of}
 use Rattle.seq_scan.specs.BlockRows.{BlockRows}
 use Rattle.xact_redo.specs.Sees.{sees}
 use Rattle.xact_redo.specs.State.{TransactionState}
-use Rattle.transaction_model.specs.Transactions.{Statuses, TransactionRecord, state_of}
+use Rattle.transaction_model.specs.Transactions.{state_of}
 use Rattle.xact_redo.specs.TransactionsOf.{transactions_of}
 use Rattle.row_model.specs.Versions.{Version}
 use Rattle.row_model.specs.RowSteps.{block_count, versions}
+use Rattle.row_model.specs.Origins.{BeginsEmpty, LogOrigin}
+use Rattle.row_model.specs.LegalRows.{LegalLog}
 use Rattle.row_model.specs.Shown.{ShowsSeen, ShowsTable}
 use Rattle.row_redo.specs.Shown.{BlocksShowVersions}
 use Rattle.row_visibility.specs.Sees.{SeesRows, StateAlong, state_along}
@@ -30,8 +32,8 @@ use Rattle.scan_model.specs.Tables.{described, known, number_of, table_t, table_
 use Rattle.scan_model.specs.Scan.{Reply, LogRefused, NotAdmitted, Scanned, AnswersBlocks as AnswersRefused, AnswersNext, AnswersOpening, AnswersRows as AnswersBlocks, AnswersTable as AnswersNumber, is_admitted, is_ready, is_there, is_whole, page_of, pages_from}
 use Rattle.scan_model.proofs.Replies.{one_count}
 use Rattle.scan_model.proofs.Runs.{set_up}
-use Rattle.legal_scan.specs.Answer.{AnswersAdmitted, AnswersRows, AnswersTable, IsLegal, IsLegalLog, LegalAnswer, LegalScan, admits, committed_in, has_backup_ended, origin_with, page_with}
-use Rattle.legal_scan.proofs.Along.{awaited_along, awaited_with, awaits, past_redo, redoes, replayed_where, transactions_along}
+use Rattle.legal_scan.specs.Answer.{AllFit, AnswersAdmitted, AnswersRows, AnswersTable, IsLegal, LegalAnswer, LegalScan, admits, has_backup_ended, origin_with, page_with}
+use Rattle.legal_scan.proofs.Along.{awaited_along, awaited_with, awaits, blocks_are, past_redo, replayed_where, rises_too, transactions_along}
 
 -- the table that a name names is t or u
 number_from :
@@ -47,11 +49,11 @@ file_of table (inr e) = subst (λ (n : ℕ). table_of known (table_with n).file 
 
 -- whether a block is there
 seen_there :
-    (s : Statuses) (log : List TransactionRecord) (vs : List Version) (count block : ℕ) (seen : Seen)
-    → ShowsSeen s log vs count block seen → is_there seen ≡ nat_lt block count
-seen_there s log vs count block absent (past, none) = sym (le-ltb block count past)
-seen_there s log vs count block bad_block h = absurd h
-seen_there s log vs count block (seen_page lsn items) (in_table, shows) = sym (lt-ltb block count in_table)
+    (o : LogOrigin) (log : List Rec) (vs : List Version) (count block : ℕ) (seen : Seen)
+    → ShowsSeen o log vs count block seen → is_there seen ≡ nat_lt block count
+seen_there o log vs count block absent (past, none) = sym (le-ltb block count past)
+seen_there o log vs count block bad_block h = absurd h
+seen_there o log vs count block (seen_page lsn items) (in_table, shows) = sym (lt-ltb block count in_table)
 
 -- equal pages
 pages_same :
@@ -108,29 +110,34 @@ refused top log node table reply leads mode says =
     ∙ ap (λ (m : State). NotAdmitted origin.redo.0 end (not (has_backup_ended log)) m)
     (ap (λ (t : TransactionState). t.known.mode) (transactions_along log node leads) ∙ mode)
 
+-- the log begins with empty tables
+begins_empty : {top : ℕ → ℕ} → BeginsEmpty (origin_with top)
+begins_empty = record { tables = λ table. refl; none_committed = λ x. refl; none_aborted = λ x. refl }
+
 -- a scan that is admitted
 scanned :
     BlocksShowVersions → SeesRows → ScanGivesRows → (top : ℕ → ℕ) (log : List Rec) (node : Standby) (table : ℕ) (reply : Reply)
-    → (table ≡ 0) ⊎ (table ≡ 1) → IsLegalLog top log → Rises origin.redo.0 log → replayed log ≡ Ok node
+    → (table ≡ 0) ⊎ (table ≡ 1) → LegalLog (origin_with top) known log × AllFit log → Rises origin.redo.0 log → replayed log ≡ Ok node
     → (state_along log).known.mode ≡ Ready → AnswersBlocks node table reply
     → AnswersRows top log table (end_of origin.redo.0 log) reply
 scanned shown seen gives top log node table reply is legal rises leads ready answer =
     let o = origin_with top in
     let end = end_of origin.redo.0 log in
-    let txs = transactions_of log in
     let file = (table_with table).file in
-    let vs = versions file log in
-    let count = block_count file log in
+    let vs = versions o file log in
+    let count = block_count o file log in
     let columns = (table_with table).columns in
     let sees_in = sees (state_along log) in
-    let shows : ShowsTable o.at txs vs count (node.blocks table) =
-    shown o known log node.blocks node.at.0 table file (file_of table is) legal.rules (redoes log node rises leads) in
-    let see_them : SeesThem (committed_in top log) o.at txs sees_in =
-    λ v tuple s single. seen o log (λ x. (refl, refl)) legal.rules.transactions ready v tuple s single in
-    let (rows, are_rows, scans) = gives (committed_in top log) o.at txs vs count (node.blocks table) columns sees_in shows see_them in
+    let (rules, fit) = legal in
+    let shows : ShowsTable o log vs count (node.blocks table) =
+    subst (λ (view : View). ShowsTable o log vs count (view table)) (blocks_are top log rules.view node rules.redone leads)
+    (shown o known log rules.view table file (file_of table is) begins_empty rules (rises_too origin.redo.0 log rises) fit rules.redone) in
+    let see_them : SeesThem o log sees_in =
+    λ v tuple s sound. seen o log (λ x. (refl, refl)) rules.transactions ready v tuple s sound in
+    let (rows, are_rows, scans) = gives o log vs count (node.blocks table) columns sees_in shows see_them in
     let same : answer.blocks ≡ count =
     one_count (λ block. is_there (node.blocks table block)) answer.blocks count answer.count
-    (λ block. seen_there o.at txs vs count block (node.blocks table block) (shows.shows block)) in
+    (λ block. seen_there o log vs count block (node.blocks table block) (shows.shows block)) in
     let pages : (block : ℕ) → block < count → page_of node table block ≡ page_with table rows block =
     λ block less. ap (λ (t : TransactionState). page_of (record node { transactions = t }) table block) (transactions_along log node leads)
     ∙ scans.each block less in
@@ -146,7 +153,7 @@ scanned shown seen gives top log node table reply is legal rises leads ready ans
 
 by_admission :
     BlocksShowVersions → SeesRows → ScanGivesRows → (top : ℕ → ℕ) (log : List Rec) (node : Standby) (table : ℕ) (reply : Reply)
-    → (table ≡ 0) ⊎ (table ≡ 1) → IsLegalLog top log → Rises origin.redo.0 log → replayed log ≡ Ok node
+    → (table ≡ 0) ⊎ (table ≡ 1) → LegalLog (origin_with top) known log × AllFit log → Rises origin.redo.0 log → replayed log ≡ Ok node
     → (state_along log).known.mode ≡ state_of (transactions_of log)
     → (admitted : Bool) → admits log ≡ admitted → AnswersOpening node table admitted reply
     → AnswersAdmitted admitted top log table (end_of origin.redo.0 log) reply
@@ -159,11 +166,11 @@ by_admission shown seen gives top log node table reply is legal rises leads mode
 -- where the log ends, by the table
 by_table :
     BlocksShowVersions → StateAlong → SeesRows → ScanGivesRows → (top : ℕ → ℕ) (log : List Rec) (node : Standby) (name : List ℕ)
-    (number : Option ℕ) (reply : Reply) → number_of name ≡ number → IsLegalLog top log → Rises origin.redo.0 log
+    (number : Option ℕ) (reply : Reply) → number_of name ≡ number → LegalLog (origin_with top) known log × AllFit log → Rises origin.redo.0 log
     → replayed log ≡ Ok node → AnswersNumber node number reply → AnswersTable top log number reply
 by_table shown along seen gives top log node name None reply e legal rises leads answer = answer
 by_table shown along seen gives top log node name (Some table) reply e legal rises leads answer =
-    let mode = along (origin_with top) log legal.rules.transactions in
+    let mode = along (origin_with top).transactions log legal.0.transactions in
     let admitted = admitted_is log node rises leads mode in
     by_admission shown seen gives top log node table reply
     (number_from (pointwise nat_eq name table_t.name) (pointwise nat_eq name table_u.name) table e) legal rises leads mode
@@ -186,7 +193,7 @@ legal_scan_holds all_rise shown along seen gives top files name reply is answer 
         → AnswersNext name answer.node found reply → LegalAnswer top files name reply
     by (Ok rec) e says =
         let legal = is (rec ∷ answer.log) (e, answer.stands) in
-        let (next, on, same) = replayed_where (rec ∷ answer.log) legal.view legal.redone in
+        let (next, on, same) = replayed_where top (rec ∷ answer.log) legal.0.view legal.0.redone in
         absurd (not_refused rec answer.log answer.node next reply answer.is_replayed on says)
     by (Err (Refused what)) e says = record {
       log = answer.log;

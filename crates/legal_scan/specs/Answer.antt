@@ -3,18 +3,18 @@
 -- backup has ended and the running transactions are known, and then the rows are those that were committed at the log's
 -- end, in order of place.
 -- Sources: xlogrecovery.c (CheckRecoveryConsistency), procarray.c (ProcArrayApplyRecoveryInfo), heapam.c (heapgettup).
-use Rattle.std.specs.Prelude.{◌≡◌, ℕ, Bool, true, false, not, ◌&&◌, List, filter, Option, Some, None, Ok}
+use Rattle.std.specs.Prelude.{◌≡◌, ℕ, Bool, true, false, not, ◌&&◌, List, All, filter, Option, Some, None}
 use Rattle.std.specs.List.{list_any}
 use Rattle.wal_bodies.specs.declared.types.Rec.{Rec}
-use Rattle.heap_redo.specs.Redone.{View}
 use Rattle.seq_scan.specs.BlockRows.{BlockRows}
-use Rattle.transaction_model.specs.Transactions.{committed, state_of}
-use Rattle.transaction_model.specs.LegalTransactions.{Origin}
+use Rattle.transaction_model.specs.Transactions.{state_of}
 use Rattle.xact_redo.specs.TransactionsOf.{transactions_of}
 use Rattle.row_model.specs.Versions.{Version}
 use Rattle.row_model.specs.RowSteps.{block_count, versions}
 use Rattle.row_model.specs.Rows.{IsRows}
-use Rattle.row_model.specs.LegalRows.{LegalLog}
+use Rattle.row_model.specs.Origins.{LogOrigin, committed_in, empty_table}
+use Rattle.row_model.specs.Multixacts.{multixacts}
+use Rattle.row_model.specs.LegalRows.{LegalLog, RecordFits}
 use Rattle.row_pages.specs.Pages.{is_in_block, values_of}
 use Rattle.standby_core.specs.Replay.{ends_backup, refusal_of}
 use Rattle.standby_model.specs.Archived.{told_by}
@@ -22,21 +22,23 @@ use Rattle.standby_model.specs.Log.{IsLog, Stands, Stop, Ended, Refused, end_of}
 use Rattle.scan_model.specs.Run.{origin}
 use Rattle.scan_model.specs.Tables.{described, known, number_of, table_with}
 use Rattle.scan_model.specs.Scan.{Reply, LogRefused, NoTable, NotAdmitted, Scanned, AnswersLog, is_ready, pages_from, table_of}
-use Rattle.legal_scan.specs.Redone.{view_after}
 
--- where the log begins no transaction has a status; `top` leads from a subtransaction to its top transaction
-abbrev pub origin_with : (ℕ → ℕ) → Origin
-origin_with top = record { at = record { is_committed = λ x. false; is_aborted = λ x. false }; top = top }
+-- where the log begins the tables are empty and no transaction has a status; `top` leads from a subtransaction to its top
+-- transaction
+abbrev pub origin_with : (ℕ → ℕ) → LogOrigin
+origin_with top = record {
+  transactions = record { at = record { is_committed = λ x. false; is_aborted = λ x. false }; top = top };
+  tables = λ table. empty_table;
+}
 
--- a log that a primary could write, of the described tables: redo of it meets no refusal
-pub record IsLegalLog (top : ℕ → ℕ) (log : List Rec) : Type 0 where
-  pub rules : LegalLog (origin_with top) known log
-  pub view : View
-  pub redone : view_after known log ≡ Ok view
+-- the numbers of a log's records fit the fields that they are read from
+abbrev pub AllFit : List Rec → Type 0
+AllFit log = All RecordFits log
 
--- each front of the log that the files tell is one
+-- a primary could write each front of the log that the files tell
 abbrev pub IsLegal : (ℕ → ℕ) → (List ℕ → Option (List ℕ)) → Type 0
-IsLegal top files = (log : List Rec) → Stands (told_by files) described origin.redo.0 log → IsLegalLog top log
+IsLegal top files =
+    (log : List Rec) → Stands (told_by files) described origin.redo.0 log → LegalLog (origin_with top) known log × AllFit log
 
 -- the base backup, which began at the redo position, has ended
 abbrev pub has_backup_ended : List Rec → Bool
@@ -46,10 +48,6 @@ has_backup_ended log = list_any (λ (rec : Rec). ends_backup origin.redo rec.kin
 abbrev pub admits : List Rec → Bool
 admits log = has_backup_ended log && is_ready (state_of (transactions_of log))
 
--- what committed along the log
-abbrev pub committed_in : (ℕ → ℕ) → List Rec → ℕ → Bool
-committed_in top log x = committed (origin_with top).at x (transactions_of log)
-
 -- the rows of a block: their values, up to the first that is refused
 abbrev pub page_with : ℕ → List Version → ℕ → BlockRows
 page_with table rows block = values_of (table_with table).columns (filter (is_in_block block) rows)
@@ -57,8 +55,11 @@ page_with table rows block = values_of (table_with table).columns (filter (is_in
 -- a scan at the log's end, of the table's rows, block by block
 pub record AnswersRows (top : ℕ → ℕ) (log : List Rec) (table end : ℕ) (reply : Reply) : Type 0 where
   pub rows : List Version
-  pub are_rows : IsRows (committed_in top log) (versions (table_with table).file log) rows
-  pub says : reply ≡ Scanned end table (block_count (table_with table).file log) (pages_from (page_with table rows) 0 (block_count (table_with table).file log))
+  pub are_rows :
+      IsRows (multixacts log) (committed_in (origin_with top) log) (versions (origin_with top) (table_with table).file log) rows
+  pub says :
+      reply ≡ Scanned end table (block_count (origin_with top) (table_with table).file log)
+          (pages_from (page_with table rows) 0 (block_count (origin_with top) (table_with table).file log))
 
 -- or why it is not admitted
 abbrev pub AnswersAdmitted : Bool → (ℕ → ℕ) → List Rec → ℕ → ℕ → Reply → Type 0

@@ -1,4 +1,4 @@
-ghost use Rattle.std.specs.Prelude.{◌≡◌, ◌≢◌, Ok, None, IfOk, IfErr, IfSome, map, option_map, string_bytes};
+ghost use Rattle.std.specs.Prelude.{◌≡◌, ◌≢◌, Ok, Err, None, IfOk, IfErr, IfSome, map, option_map, string_bytes};
 ghost use Rattle.outside.specs.Faults.{Rose};
 ghost use Rattle.wal_archive.specs.ArchiveLog.{archived_bytes};
 ghost use Rattle.standby_model.specs.Archived.{segment_size};
@@ -24,6 +24,7 @@ pub fn answer<A: Archive>(alloc: Global, words: &[String], archive: &mut A) -> R
     ensures bad_words { IfOk result (λ reply. reply_meaning reply ≡ BadWords → table_of (map string_bytes words.now) ≡ None) }
     ensures at_once { table_of (map string_bytes words.now) ≡ None → result ≡ Ok Reply.BadWords }
     ensures failed { result ≡ Err Fail.Failed → Rose (A.fault_count archive.old) (A.fault_count archive.new) }
+    ensures uncounted { result ≢ Err Fail.Failed → A.fault_count archive.new ≡ A.fault_count archive.old }
 {
     match table_of(words) {
         None => Ok(Reply::BadWords),
@@ -51,6 +52,7 @@ fn answer_scan<A: Archive>(alloc: Global, name: &str, archive: &mut A) -> Result
         AnswersLog name.now files (reply_meaning reply))) }
     ensures understood { IfOk result (λ reply. reply_meaning reply ≢ BadWords) }
     ensures failed { result ≡ Err Fail.Failed → Rose (A.fault_count archive.old) (A.fault_count archive.new) }
+    ensures uncounted { result ≢ Err Fail.Failed → A.fault_count archive.new ≡ A.fault_count archive.old }
 {
     match replay_log(alloc, archive) {
         Err(fail) => Err(fail),

@@ -1,4 +1,4 @@
-ghost use Rattle.std.specs.Prelude.{◌≡◌, IfOk, IfErr};
+ghost use Rattle.std.specs.Prelude.{◌≡◌, ◌≢◌, IfOk, Err};
 ghost use Rattle.outside.specs.Faults.{Rose};
 ghost use Rattle.wal_archive.specs.ArchiveLog.{archived_bytes};
 ghost use Rattle.standby_core.specs.View.{standby};
@@ -48,6 +48,7 @@ pub fn replay_log<A: Archive>(alloc: Global, archive: &mut A) -> Result<Replay, 
     ensures replayed { IfOk result (IsReplayed (archived_bytes (A.files archive.old) segment_size)) }
     ensures tables { IfOk result HasTables }
     ensures failed { result ≡ Err Fail.Failed → Rose (A.fault_count archive.old) (A.fault_count archive.new) }
+    ensures uncounted { result ≢ Err Fail.Failed → A.fault_count archive.new ≡ A.fault_count archive.old }
 {
     let mut node = match start(alloc) {
         Err(_) => return Err(Fail::Memory),

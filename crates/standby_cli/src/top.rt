@@ -1,4 +1,4 @@
-ghost use Rattle.std.specs.Prelude.{◌≡◌, ◌≤◌, ◌⊎◌, ℕ, List, None, IfSome, IfOk, map, string_bytes, codes};
+ghost use Rattle.std.specs.Prelude.{◌≡◌, ◌≢◌, ◌≤◌, ◌⊎◌, ℕ, List, None, IfSome, IfOk, map, string_bytes, codes};
 ghost use Rattle.outside.specs.Faults.{Rose};
 ghost use Rattle.outside.specs.Sink.{Appends, AppendsPrefix};
 ghost use Rattle.legal_scan.specs.Answer.{WhereLegal};
@@ -40,9 +40,10 @@ pub fn standby_main<A: Archive, O: Sink>(
         WhereLegal (map string_bytes words.now) files (λ reply. (result ≡ status_of reply)
         × (Appends (O.written out.old) (O.written out.new) (text_of reply)))) }
 
-    // A fault has its cause. Where the sink failed a prefix of the answer's text is written; else whole lines of it, and then
+    // A fault has its cause, and no fetch that failed is passed over. Where the sink failed a prefix of the answer's text is written; else whole lines of it, and then
     // the fault's line.
     ensures archive_failed { result ≡ 7 → Rose (A.fault_count archive.old) (A.fault_count archive.new) }
+    ensures uncounted { result ≢ 7 → A.fault_count archive.new ≡ A.fault_count archive.old }
     ensures archive_line { result ≡ 7
         → AppendsUnless (Rose (O.fault_count out.old) (O.fault_count out.new) ⊎ Rose (O.short_count out.old) (O.short_count out.new))
         (O.written out.old) (O.written out.new) (line (codes "fault archive")) }

@@ -14,7 +14,7 @@ records-init g c =
       segsize = first.1;
       bound = first.2;
       told = refl;
-      faults = omega arith;
+      faults = refl;
     }
 
 pub records-preserved : goal.records-preserved
@@ -35,7 +35,7 @@ records-preserved g c =
       segsize = is.segsize ∙ inv.segsize;
       bound = onward.1;
       told = later ∙ inv.told;
-      faults = let a = inv.faults in let b = is.faults in omega arith;
+      faults = is.uncounted (λ e. cc) ∙ inv.faults;
     }
 
 pub returns-in-Ok-AtEnd-clause-replayed : goal.returns-in-Ok-AtEnd-clause-replayed

@@ -13,7 +13,7 @@ invariant-records g l = record {
   segsize : (standby l.node).segsize ≡ segment_size;
   bound : (standby l.node).at.0 ≤ 2 ^ 63 + 2 ^ 31;
   told : archived_bytes (g.A.Archive.files l.archive) segment_size ≡ archived_bytes (g.A.Archive.files l.initial.archive) segment_size;
-  faults : g.A.Archive.fault_count l.initial.archive ≤ g.A.Archive.fault_count l.archive;
+  faults : g.A.Archive.fault_count l.archive ≡ g.A.Archive.fault_count l.initial.archive;
 }
 
 abbrev pub decreases-records : goal.decreases-records
