@@ -3,7 +3,7 @@
 //! on the reader answers what. Then over all of them, in two pieces, cut at each place. Last come logs whose
 //! first record is no good: bits of the log are turned, or its bytes are cut off, or another record stands in
 //! its place. Each is read whole, 1 and 7 bytes at once, and in two pieces, cut at each place. The logs, in
-//! data/cases, are made by an independent assembler of log records, and the file stdout was worked out by hand.
+//! data/cases, are made from their notation in data/cases.note, and the file stdout was worked out by hand.
 #![tactic(auto)]
 
 use outside::{MemoryLog, SteadyLog};
@@ -198,11 +198,24 @@ fn show(rt: &HostRuntime, outcome: Outcome) -> io::Result<()> {
     let low = outcome.stop.at & 0xFFFF_FFFF;
     print!(rt; "{} records, {high:X}/{low:X} ", outcome.records)?;
     match outcome.stop.why {
-        Why::End(why) => println!(rt; "{why:?}"),
-        Why::Compressed => println!(rt; "refused, Compressed"),
-        Why::TooLong => println!(rt; "refused, TooLong"),
+        Why::End(why) => println!(rt; "{}", why_text(why)),
+        Why::Compressed => println!(rt; "refused, compressed"),
+        Why::TooLong => println!(rt; "refused, too long"),
         Why::Fault => println!(rt; "fault"),
         Why::Other => println!(rt; "another answer when asked again"),
+    }
+}
+
+fn why_text(why: EndWhy) -> &'static str {
+    match why {
+        EndWhy::Missing => "missing",
+        EndWhy::Page => "page",
+        EndWhy::Zero => "length 0",
+        EndWhy::Short => "length below a header's",
+        EndWhy::Manager => "manager",
+        EndWhy::Prev => "link",
+        EndWhy::Crc => "CRC",
+        EndWhy::Layout => "layout",
     }
 }
 

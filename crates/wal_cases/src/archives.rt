@@ -30,14 +30,15 @@ pub fn answer(rt: &HostRuntime, question: &[&str]) -> Result<(), Wrong> {
     match *rest {
         ["failing", call, ref behind @ ..] => {
             let mut archive = MemoryArchive::new(rt.alloc(), files, &[number_u64(call)?])?;
-            let mut log = ArchiveLog::plain(&mut archive, SEGMENT);
-            ask(rt, &mut log, behind)
+            ask_over(rt, &mut archive, behind)
         }
-        _ => {
-            let mut log = ArchiveLog::plain(&mut files, SEGMENT);
-            ask(rt, &mut log, rest)
-        }
+        _ => ask_over(rt, &mut files, rest),
     }
+}
+
+fn ask_over<A: Archive>(rt: &HostRuntime, archive: &mut A, asked: &[&str]) -> Result<(), Wrong> {
+    let mut log = ArchiveLog::plain(archive, SEGMENT);
+    ask(rt, &mut log, asked)
 }
 
 /// Asks for bytes at positions, up to so many.

@@ -1,5 +1,6 @@
 //! Records that are written.
-ghost use Rattle.std.specs.Prelude.{◌≡◌, ◌≤◌, ◌+◌, OnTrue, IfSome, IsTrue, length};
+ghost use Rattle.std.specs.Prelude.{◌≡◌, ◌≤◌, ◌+◌, IfSome, IsTrue, length};
+ghost use Rattle.std.specs.Bool.{OnTrue};
 ghost use Rattle.wal_record.specs.New.{AreNewBlocks, IsNew, IsNewBlock, blocks_size, image_bytes, is_page_image, payload_of};
 
 use crate::records::prev_rule;
@@ -92,18 +93,20 @@ fn written(rt: &HostRuntime, record: &NewRecord, text: &[u8]) -> Result<(), Wron
 }
 
 /// Whether the record is one that can be written. Of those that can, some that are long are not found so.
-fn is_new(record: &NewRecord) -> bool
-    ensures { OnTrue result (IsNew record.now) }
+#[tactic(auto, using(crate::proofs::NewBlocks::new_record))]
+fn is_new(rec: &NewRecord) -> bool
+    ensures { OnTrue result (IsNew rec.now) }
 {
-    match size_of(0, None, record.blocks.as_slice()) {
+    match size_of(0, None, rec.blocks.as_slice()) {
         None => false,
         Some(size) => {
-            record.xid.0 < 0x1_0000_0000 && size <= 0x100_0000 && record.main.len() <= 0x100_0000
+            rec.xid.0 < 0x1_0000_0000 && size <= 0x100_0000 && rec.main.len() <= 0x100_0000
         }
     }
 }
 
 /// A bound for the size of blocks whose ids rise from `least` on, where each of them can be written.
+#[tactic(auto, using(crate::proofs::NewBlocks::new_blocks, crate::proofs::NewBlocks::size_with))]
 fn size_of(least: u16, before: Option<Locator>, blocks: &[NewBlock]) -> Option<usize>
     ensures new { IfSome result (λ _. AreNewBlocks least blocks.now) }
     ensures size { IfSome result (λ size. blocks_size before blocks.now ≤ size) }

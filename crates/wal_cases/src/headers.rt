@@ -1,5 +1,6 @@
 //! Headers of pages of the log.
-ghost use Rattle.std.specs.Prelude.{OnTrue, if◌then◌else◌, is_some};
+ghost use Rattle.std.specs.Prelude.{if◌then◌else◌, is_some};
+ghost use Rattle.std.specs.Bool.{OnTrue};
 ghost use Rattle.wal_page.specs.Page.{HasInfo};
 
 use case_text::{ShowHex, ShowPosition, Wrong, number_u32, number_u64, position};

@@ -55,7 +55,8 @@ fn segment_size(word: &str) -> Option<u32>
 
 fn segment(rt: &HostRuntime, tli: Tli, number: u64, size: &str) -> Result<(), Wrong> {
     let size = segment_size(size).ok_or(Wrong::Line)?;
-    if number >= 0x2_0000_0000 {
+    let start = number.checked_mul(u64::from(size)).ok_or(Wrong::Number)?;
+    if start >= 0x8000_0000_0000_0000 {
         return Err(Wrong::Number);
     }
     let mut out = Vec::new(rt.alloc());

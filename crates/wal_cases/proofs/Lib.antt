@@ -1,0 +1,2 @@
+mod NewBlocks
+mod Sizes

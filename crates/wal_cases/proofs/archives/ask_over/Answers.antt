@@ -1,0 +1,5 @@
+use Rattle.pg_types.specs.SegmentSizes.{one_mebibyte}
+use Rattle.wal_cases.proofs.archives.ask_over.Goals as goal
+
+pub plain-log-requires : goal.plain-log-requires
+plain-log-requires g c = one_mebibyte
