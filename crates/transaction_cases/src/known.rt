@@ -109,6 +109,9 @@ pub fn show(rt: &HostRuntime, known: &KnownAssigned) -> Result<(), Wrong> {
     }
     let latest = known.latest_completed();
     let overflowed = known.last_overflowed();
-    print!(rt; ", latest completed {}, last overflowed {}", latest.0, overflowed.0)?;
+    print!(rt;
+        ", latest completed {}, last overflowed {}",
+        latest.0, overflowed.0
+    )?;
     Ok(())
 }

@@ -56,12 +56,7 @@ fn answer(rt: &HostRuntime, session: &mut Session, line: &str) -> Result<(), Wro
 }
 
 /// Asks the layer.
-fn step(
-    rt: &HostRuntime,
-    session: &mut Session,
-    layer: &str,
-    asked: &[&str],
-) -> Result<(), Wrong> {
+fn step(rt: &HostRuntime, session: &mut Session, layer: &str, asked: &[&str]) -> Result<(), Wrong> {
     match layer {
         "clog" => statuses::answer(rt, &mut session.log, asked),
         "subtrans" => parents::answer(rt, &mut session.subs, asked),

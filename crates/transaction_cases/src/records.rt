@@ -49,8 +49,25 @@ fn record(alloc: Global, asked: &[&str]) -> Result<Rec, Wrong>
 {
     match *asked {
         ["change", xid] => Ok(headed(alloc, 0x00, short(xid)?, RecKind::Confirm { line: 1 })),
-        [how, xid, "subs", subs] => ended(alloc, info_of(how)?, short(xid)?, short_ids(alloc, subs)?),
-        ["running", "overflow", overflow, "next", next, "oldest", oldest, "latest", latest, "xids", xids] => {
+        [how, xid, "subs", subs] => ended(
+            alloc,
+            info_of(how)?,
+            short(xid)?,
+            short_ids(alloc, subs)?,
+        ),
+        [
+            "running",
+            "overflow",
+            overflow,
+            "next",
+            next,
+            "oldest",
+            oldest,
+            "latest",
+            latest,
+            "xids",
+            xids,
+        ] => {
             let bounds = [short(next)?, short(oldest)?, short(latest)?];
             running(alloc, yes(overflow)?, bounds, short_ids(alloc, xids)?)
         }

@@ -67,9 +67,19 @@ fn show(rt: &HostRuntime, snapshot: Option<&Snapshot>) -> Result<(), Wrong> {
     match snapshot {
         None => print!(rt; " not yet")?,
         Some(snapshot) => {
-            print!(rt; " xmin {}, xmax {}, running", snapshot.xmin.0, snapshot.xmax.0)?;
+            print!(rt;
+                " xmin {}, xmax {}, running",
+                snapshot.xmin.0, snapshot.xmax.0
+            )?;
             show_ids(rt, snapshot.running.as_slice())?;
-            print!(rt; "{}", if snapshot.overflowed { ", overflowed" } else { "" })?;
+            print!(rt;
+                "{}",
+                if snapshot.overflowed {
+                    ", overflowed"
+                } else {
+                    ""
+                }
+            )?;
         }
     }
     Ok(())
@@ -94,7 +104,13 @@ fn ask(
             let mask = mask(marks)?;
             for xmin in xmins.split(',') {
                 for xmax in xmaxs.split(',') {
-                    sees(rt, snapshot, log, [number_u32(xmin)?, number_u32(xmax)?], mask)?;
+                    sees(
+                        rt,
+                        snapshot,
+                        log,
+                        [number_u32(xmin)?, number_u32(xmax)?],
+                        mask,
+                    )?;
                 }
             }
             Ok(())

@@ -23,13 +23,7 @@ pub fn answer(rt: &HostRuntime, log: &mut CommitLog, asked: &[&str]) -> Result<(
 }
 
 /// Makes the room for the statuses and sets them.
-fn set(
-    log: &mut CommitLog,
-    top: Xid,
-    subs: &[Xid],
-    status: Status,
-    at: Lsn,
-) -> Result<(), Wrong> {
+fn set(log: &mut CommitLog, top: Xid, subs: &[Xid], status: Status, at: Lsn) -> Result<(), Wrong> {
     let last = greatest(top, subs);
     if top.0 > last.0 || !are_within(subs, last.0) {
         return Err(Wrong::Number);
