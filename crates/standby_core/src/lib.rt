@@ -7,6 +7,3 @@ mod types;
 
 pub use node::Node;
 pub use types::{NodeFault, NodeParts, NodeStatus, Origin, Refusal, Replayed};
-
-#[cfg(test)]
-mod tests;
