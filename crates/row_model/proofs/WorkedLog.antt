@@ -21,7 +21,8 @@ use Rattle.row_model.specs.TransactionsOf.{transaction_of, transactions_of}
 use Rattle.row_model.specs.Versions.{Version, changed_at, version_at, with_step, with_steps}
 use Rattle.row_model.specs.RowSteps.{births, births_written, block_count, count_with, deleter_of_mark, own_steps, steps_in, update_steps, version_put, version_written, versions, whole_steps}
 use Rattle.row_model.specs.Rows.{IsInPlaceOrder, is_row}
-use Rattle.row_model.specs.LegalRows.{StepsRule, AreBytes, AreMarksTrue, AreWellFormed, BlockFits, BlocksRule, ImageRule, AnewRule, KindFits, LegalTable, RecordFits, TableRule, TupleFits, are_apart}
+use Rattle.record_numbers.specs.Fits.{AreBytes, BlockFits, KindFits, RecordFits, TupleFits}
+use Rattle.row_model.specs.LegalRows.{StepsRule, AreMarksTrue, AreWellFormed, BlocksRule, ImageRule, AnewRule, LegalTable, TableRule, are_apart}
 use Rattle.row_model.proofs.WorkedIds.{first_live, second_live, worked_legal}
 use Rattle.row_model.specs.WorkedRows.{AreRowsAfter, IsWorkedRows, first_row, first_tuple, first_values, second_row, second_tuple, backup_end, commit_of_700, commit_of_701, insert_by_700, nothing_runs, online_checkpoint, update_by_701, worked_start, worked_block, worked_first, worked_log, worked_origin, worked_table}
 

@@ -1,16 +1,13 @@
 -- What a primary keeps to when it writes of a table's rows, record by record, beside the rules of transactions.
 -- Sources: heapam.c (heap_insert, heap_delete, heap_update, heap_abort_speculative), heapam_visibility.c (SetHintBits),
 -- xloginsert.c (XLogRegisterBuffer, XLogRecordAssemble).
-use Rattle.std.specs.Prelude.{◌≡◌, ℕ, ◌<◌, ◌^◌, Bool, true, false, ◌==◌, not, ◌&&◌, List, [], ◌∷◌, drop, All, Option, Some, None}
+use Rattle.std.specs.Prelude.{◌≡◌, ℕ, Bool, true, false, ◌==◌, not, ◌&&◌, List, [], ◌∷◌, drop, All, Option, Some, None}
 use Rattle.std.specs.List.{list_all}
 use Rattle.pg_types.specs.declared.names.Locator.{Locator}
 use Rattle.pg_types.specs.declared.names.Xid.{Xid}
 use Rattle.wal_record.specs.declared.new.NewImage.{NewImage}
-use Rattle.wal_bodies.specs.declared.types.NewTuple.{NewTuple}
 use Rattle.wal_bodies.specs.declared.types.RecBlock.{RecBlock}
 use Rattle.wal_bodies.specs.declared.types.Rec.{Rec}
-use Rattle.wal_bodies.specs.declared.types.RecKind.{RecKind}
-use Rattle.wal_bodies.specs.declared.types.RecKind.TheVariants.{Delete, Update, Lock, LockUpdated}
 use Rattle.wal_bodies.specs.HeapKinds.{same_locator}
 use Rattle.wal_bodies.specs.After.{applied}
 use Rattle.heap_tuple.specs.Tuple.{xmin_of, infomask_of, columns_of, has_bits, max_of}
@@ -20,6 +17,7 @@ use Rattle.heap_page.specs.Item.{Item, normal, numbered, is_normal}
 use Rattle.tuple_visibility.specs.Visible.{xmin_marks}
 use Rattle.transaction_model.specs.Transactions.{Statuses, TransactionRecord, Live, committed, ended}
 use Rattle.transaction_model.specs.LegalTransactions.{Legal, Origin}
+use Rattle.record_numbers.specs.Fits.{RecordFits}
 use Rattle.row_model.specs.TransactionsOf.{transactions_of}
 use Rattle.row_model.specs.Versions.{Version, Inserter, Nobody, Always, By, RowStep, Born, Deleter, Undone, version_at, version_born, with_step, with_steps}
 use Rattle.row_model.specs.RowSteps.{block_count, items_in, steps_of, versions}
@@ -123,37 +121,6 @@ same_block a b = same_locator a.locator b.locator && (a.block == b.block)
 unfoldable pub are_apart : List RecBlock → Bool
 are_apart [] = true
 are_apart (a ∷ blocks) = list_all (λ b. not (same_block a b)) blocks && are_apart blocks
-
--- the numbers of a record fit the fields that they are read from
-abbrev pub AreBytes : List ℕ → Type 0
-AreBytes bytes = All (λ (byte : ℕ). byte < 256) bytes
-
-pub record TupleFits (tuple : NewTuple) : Type 0 where
-  pub mask2 : tuple.mask2 < 2 ^ 16
-  pub mask : tuple.mask < 2 ^ 16
-  pub hoff : tuple.hoff < 2 ^ 8
-  pub rest : AreBytes tuple.rest
-
-abbrev pub ImageFits : Option NewImage → Type 0
-ImageFits None = Unit {0}
-ImageFits (Some image) = AreBytes image.bytes
-
-pub record BlockFits (block : RecBlock) : Type 0 where
-  pub number : block.block < 2 ^ 32
-  pub image : ImageFits block.image
-  pub tuples : All TupleFits block.tuples
-
-abbrev pub KindFits : RecKind → Type 0
-KindFits (Delete xmax line bits flags) = (xmax < 2 ^ 32) × (bits < 2 ^ 8)
-KindFits (Update old_xmax old_line old_bits flags new_xmax new_line) = (old_xmax < 2 ^ 32) × ((old_bits < 2 ^ 8) × (new_xmax < 2 ^ 32))
-KindFits (Lock xmax line bits flags) = (xmax < 2 ^ 32) × (bits < 2 ^ 8)
-KindFits (LockUpdated xmax line bits flags) = (xmax < 2 ^ 32) × (bits < 2 ^ 8)
-KindFits _ = Unit {0}
-
-pub record RecordFits (rec : Rec) : Type 0 where
-  pub xid : rec.head.xid.0 < 2 ^ 32
-  pub kind : KindFits rec.kind
-  pub blocks : All BlockFits rec.blocks
 
 -- what a record keeps to in a table, after the older ones: its steps one after the other, and its blocks
 pub record TableRule (s : Statuses) (log : List TransactionRecord) (table : Locator) (count : ℕ) (vs : List Version) (rec : Rec) : Type 0 where

@@ -10,7 +10,8 @@ use Rattle.transaction_model.specs.LegalTransactions.{Origin, Legal}
 use Rattle.row_model.specs.TransactionsOf.{transaction_of, transactions_of}
 use Rattle.row_model.specs.Versions.{Version, with_steps, version_at}
 use Rattle.row_model.specs.RowSteps.{block_count, count_with, steps_of, versions}
-use Rattle.row_model.specs.LegalRows.{RecordFits, LegalTable, AreWellFormed, TableRule, are_apart}
+use Rattle.record_numbers.specs.Fits.{RecordFits}
+use Rattle.row_model.specs.LegalRows.{LegalTable, AreWellFormed, TableRule, are_apart}
 use Rattle.row_redo.specs.Shown.{Redoes, BlocksShowVersions}
 use Rattle.row_redo.proofs.Apart.{steps_apart, steps_single}
 use Rattle.row_redo.proofs.Tables.{legal_rows}

@@ -16,7 +16,8 @@ use Rattle.wal_bodies.specs.Heads.{Head, marked, deleted, replaced, locked}
 use Rattle.wal_bodies.specs.After.{BlockRefusal, no_tuple, ◌>>=◌, applied, put, put_listed, put_version, change_head, tuple_of, joined, user_data, is_short, update_old, update_within, update, number_of, changed}
 use Rattle.row_model.specs.Versions.{Version, RowStep, Born, Deleter, Undone, version_at, with_step, with_steps}
 use Rattle.row_model.specs.RowSteps.{deleter_of_mark, births_written, births, version_written, version_put, values_of, update_steps, own_steps}
-use Rattle.row_model.specs.LegalRows.{AreBytes, TupleFits, BlockFits, KindFits, RecordFits, ShowsPlace, ShowsBlock, StepsRule}
+use Rattle.record_numbers.specs.Fits.{AreBytes, TupleFits, BlockFits, KindFits, RecordFits}
+use Rattle.row_model.specs.LegalRows.{ShowsPlace, ShowsBlock, StepsRule}
 use Rattle.row_redo.proofs.Fitting.{TuplesFit}
 use Rattle.row_redo.proofs.Heads.{head-bytes, same-values, Marks, marks-marked, marks-replaced, marks-locked, marks-deleted}
 use Rattle.row_redo.proofs.OneLine.{change-done}

@@ -14,7 +14,8 @@ use Rattle.heap_redo.specs.Redone.{Seen, absent, bad_block, seen_page, content_o
 use Rattle.transaction_model.specs.Transactions.{Statuses, TransactionRecord}
 use Rattle.row_model.specs.Versions.{Version, RowStep, version_at, with_steps}
 use Rattle.row_model.specs.RowSteps.{items_in, own_steps, whole_steps, block_steps}
-use Rattle.row_model.specs.LegalRows.{RecordFits, BlockFits, ImageFits, ShowsPlace, ShowsBlock, StepsRule, ImageRule, AnewRule}
+use Rattle.record_numbers.specs.Fits.{RecordFits, BlockFits, ImageFits}
+use Rattle.row_model.specs.LegalRows.{ShowsPlace, ShowsBlock, StepsRule, ImageRule, AnewRule}
 use Rattle.row_model.specs.Shown.{HasNone}
 use Rattle.row_redo.proofs.Fitting.{TuplesFit}
 use Rattle.row_redo.proofs.Changes.{changed_shows}

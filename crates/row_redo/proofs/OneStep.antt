@@ -10,7 +10,8 @@ use Rattle.wal_bodies.specs.Heads.{Head, head_of, pointing_to, deleted}
 use Rattle.wal_bodies.specs.After.{put, change_head}
 use Rattle.row_model.specs.Versions.{Version, Inserter, Nobody, Always, By, Born, Deleter, Undone, inserter_in, version_at, version_born, changed_at, with_step}
 use Rattle.row_model.specs.RowSteps.{deleter_of_mark}
-use Rattle.row_model.specs.LegalRows.{AreBytes, BirthRule, ShowsInserter, ShowsDeleter, Shows, ShowsPlace, ShowsBlock, UndoneRule}
+use Rattle.record_numbers.specs.Fits.{AreBytes}
+use Rattle.row_model.specs.LegalRows.{BirthRule, ShowsInserter, ShowsDeleter, Shows, ShowsPlace, ShowsBlock, UndoneRule}
 use Rattle.row_redo.proofs.Fitting.{TuplesFit}
 use Rattle.row_redo.proofs.Heads.{Marks, marks-undone, head-fits}
 use Rattle.row_redo.proofs.Marked.{is-marked, shows-deleter, shows-undone, is-pointed, shows-pointed}
