@@ -11,7 +11,7 @@ use Rattle.page_store.specs.Content.{zeros, is_at}
 use Rattle.wal_record.specs.declared.new.NewImage.{NewImage}
 use Rattle.wal_bodies.specs.declared.types.Rec.{Rec}
 use Rattle.wal_bodies.specs.declared.types.RecBlock.{RecBlock}
-use Rattle.wal_bodies.specs.After.{BlockRefusal, no_page, bad_page, Content, missing, broken, page, applied, is_images, page_of_image, made_anew, paged, changed, changed_page, after_change, after_image, after}
+use Rattle.heap_redo.specs.After.{BlockRefusal, no_page, bad_page, Content, missing, broken, page, applied, is_images, page_of_image, made_anew, paged, changed, changed_page, after_change, after_image, after}
 use Rattle.heap_redo.specs.declared.fault.RedoFault.{RedoFault}
 use Rattle.heap_redo.specs.Redone.{Seen, absent, bad_block, seen_page, seen, View, content_of, stamped, is_anew, is_left, has_reached, left_by, redone_block, with_seen, or_zero_block, grown, view_with, table_of, view_by, redone_in, redone_at, Outcome, and_then, redone, Stands}
 use Rattle.heap_redo.proofs.OneBlock.{left-kept, redone-done, redone-by, left-ok, after-anew, after-restored}

@@ -7,8 +7,8 @@ use Rattle.heap_page.specs.declared.line.Item.{Item as LentItem}
 use Rattle.heap_page.specs.declared.line.Item.TheVariants.{Unused, Normal, Redirect, Dead}
 use Rattle.heap_page.specs.Put.{set_head_answer}
 use Rattle.heap_page.specs.declared.line.PageError.TheVariants.{NoLine}
-use Rattle.wal_bodies.specs.Heads.{Head, head_of, head_bytes}
-use Rattle.wal_bodies.specs.After.{no_tuple, answered, with_header, change_head}
+use Rattle.heap_redo.specs.TupleHeads.{Head, head_of, head_bytes}
+use Rattle.heap_redo.specs.After.{no_tuple, answered, with_header, change_head}
 
 -- an item that is lent, and is no tuple
 pub not-normal : (item : LentItem) → ((bytes : Bor (List ℕ)) → item ≡ Normal bytes → ⊥) → is_normal (shown item) ≡ false

@@ -6,7 +6,7 @@ use Rattle.heap_page.specs.Page.{IsPage, lsn_of, items_of}
 use Rattle.wal_record.specs.declared.new.NewImage.{NewImage}
 use Rattle.wal_bodies.specs.declared.types.Rec.{Rec}
 use Rattle.wal_bodies.specs.declared.types.RecBlock.{RecBlock}
-use Rattle.wal_bodies.specs.After.{BlockRefusal, no_page, bad_page, Content, missing, broken, page, applied, is_images, after_restore, made_anew, paged, changed, changed_page, after_change, after_image, after}
+use Rattle.heap_redo.specs.After.{BlockRefusal, no_page, bad_page, Content, missing, broken, page, applied, is_images, after_restore, made_anew, paged, changed, changed_page, after_change, after_image, after}
 use Rattle.heap_redo.specs.declared.fault.Refusal.{Refusal}
 use Rattle.heap_redo.specs.Refused.{outcome, content_outcome}
 use Rattle.heap_redo.specs.Redone.{Seen, absent, bad_block, seen_page, seen, content_of, stamped, is_anew, is_left, has_reached, left_by, redone_block}

@@ -12,8 +12,8 @@ use Rattle.heap_page.proofs.Overwrite.{joined-tuple}
 use Rattle.wal_bodies.specs.declared.types.NewTuple.{NewTuple}
 use Rattle.wal_bodies.specs.declared.types.Rec.{Rec}
 use Rattle.wal_bodies.specs.declared.types.RecBlock.{RecBlock}
-use Rattle.wal_bodies.specs.Heads.{head_bytes}
-use Rattle.wal_bodies.specs.After.{BlockRefusal, no_tuple, answered, put, tuple_of, joined, user_data, put_version, is_short, update_old, update_within, ◌>>=◌}
+use Rattle.heap_redo.specs.TupleHeads.{head_bytes}
+use Rattle.heap_redo.specs.After.{BlockRefusal, no_tuple, answered, put, tuple_of, joined, user_data, put_version, is_short, update_old, update_within, ◌>>=◌}
 use Rattle.heap_redo.proofs.Versions.{drop-first}
 
 take-none : {X : Type 0} → (n : ℕ) → take n (let xs : List X = [] in xs) ≡ []

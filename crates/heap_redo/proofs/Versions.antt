@@ -5,7 +5,7 @@ use Rattle.std.proofs.lemmas.Bool.{cases_lt}
 use Rattle.std.proofs.lemmas.List.{take_min, take_all, length-take, length-drop, get_or_default, take-append-le, take-take, drop_all}
 use Rattle.heap_page.specs.Item.{Item}
 use Rattle.wal_bodies.specs.declared.types.NewTuple.{NewTuple}
-use Rattle.wal_bodies.specs.After.{BlockRefusal, put, put_listed, tuple_of, joined}
+use Rattle.heap_redo.specs.After.{BlockRefusal, put, put_listed, tuple_of, joined}
 
 -- the end of a text, from where the first part ends on
 pub take-append_more : {X : Type 0} → (n : ℕ) (xs ys : List X) → length xs ≤ n → take n (xs ++ ys) ≡ xs ++ take (n - length xs) ys

@@ -11,7 +11,7 @@ use Rattle.page_store.specs.declared.pool.PoolFault.TheVariants.{Missing, BadPag
 use Rattle.page_store.specs.Content.{Blocks, is_at, with_block, or_zeros, filled_below, page_answer}
 use Rattle.wal_bodies.specs.declared.types.Rec.{Rec}
 use Rattle.wal_bodies.specs.declared.types.RecBlock.{RecBlock}
-use Rattle.wal_bodies.specs.After.{BlockRefusal}
+use Rattle.heap_redo.specs.After.{BlockRefusal}
 use Rattle.heap_redo.specs.declared.fault.RedoFault.{RedoFault}
 use Rattle.heap_redo.specs.Refused.{pool_fault_at}
 use Rattle.heap_redo.specs.Redone.{Seen, bad_block, seen_page, seen, View, view_of, is_anew, is_left, redone_block, with_seen, or_zero_block, grown, view_with, view_by, view_outcome, Follows, fault_by, fault_outcome}

@@ -1,5 +1,5 @@
 -- The header of a tuple that the code keeps.
-use Rattle.wal_bodies.specs.Heads.{Head}
+use Rattle.heap_redo.specs.TupleHeads.{Head}
 use Rattle.heap_redo.specs.declared.head.Header.{Header}
 
 -- its fields

@@ -9,7 +9,7 @@ use Rattle.page_store.specs.Content.{Blocks, zeros, is_at}
 use Rattle.wal_bodies.specs.declared.types.Rec.{Rec}
 use Rattle.wal_bodies.specs.declared.types.RecBlock.{RecBlock}
 use Rattle.wal_bodies.specs.HeapKinds.{same_locator}
-use Rattle.wal_bodies.specs.After.{BlockRefusal, no_page, Content, missing, broken, page, applied, is_images, after}
+use Rattle.heap_redo.specs.After.{BlockRefusal, no_page, Content, missing, broken, page, applied, is_images, after}
 use Rattle.heap_redo.specs.declared.fault.RedoFault.{RedoFault}
 use Rattle.heap_redo.specs.declared.fault.RedoFault.TheVariants.{Memory}
 use Rattle.heap_redo.specs.declared.fault.Refusal.{Refusal}

@@ -7,7 +7,7 @@ use Rattle.page_store.specs.declared.pool.PoolFault.{PoolFault}
 use Rattle.page_store.specs.declared.pool.PoolFault.TheVariants.{Missing, BadPage as BrokenPage, Memory as NoRoom}
 use Rattle.wal_bodies.specs.declared.types.Rec.{Rec}
 use Rattle.wal_bodies.specs.declared.types.RecBlock.{RecBlock}
-use Rattle.wal_bodies.specs.After.{BlockRefusal, no_page, no_tuple, page_full, bad_page, Content, page}
+use Rattle.heap_redo.specs.After.{BlockRefusal, no_page, no_tuple, page_full, bad_page, Content, page}
 use Rattle.heap_redo.specs.declared.fault.Refusal.{Refusal}
 use Rattle.heap_redo.specs.declared.fault.Refusal.TheVariants.{NoPage, NoTuple, PageFull, BadPage}
 use Rattle.heap_redo.specs.declared.fault.RedoFault.{RedoFault}

@@ -1,6 +1,6 @@
 ghost use Rattle.std.specs.Prelude.{◌≡◌, ◌<◌, true, false, is_some, Some, OnOk, OnErr};
 ghost use Rattle.heap_page.specs.Page.{IsPage};
-ghost use Rattle.wal_bodies.specs.After.{Content, applied, is_images, after_restore, after};
+ghost use Rattle.heap_redo.specs.After.{Content, applied, is_images, after_restore, after};
 ghost use Rattle.heap_redo.specs.Refused.{content_outcome};
 ghost use Rattle.heap_redo.specs.Redone.{Seen, seen, is_anew, is_left, redone_block, seen_outcome};
 

@@ -1,6 +1,6 @@
 ghost use Rattle.std.specs.Prelude.{◌≡◌};
 ghost use Rattle.heap_page.specs.Page.{IsPage, items_of};
-ghost use Rattle.wal_bodies.specs.After.{changed};
+ghost use Rattle.heap_redo.specs.After.{changed};
 ghost use Rattle.heap_redo.specs.Refused.{outcome};
 
 use crate::fault::Refusal;
@@ -12,7 +12,7 @@ use wal_bodies::{Rec, RecBlock, RecKind};
 
 /// What a record changes in the page of a block, which has the page rule before and after. Where it is
 /// refused the page may be changed in part.
-#[tactic(auto, unfolding(wal_bodies::specs::After::changed))]
+#[tactic(auto, unfolding(crate::specs::After::changed))]
 pub fn change(page: &mut Page, rec: &Rec, block: &RecBlock) -> Result<(), Refusal>
     requires { IsPage page.old }
     ensures answer { outcome (items_of page.new) result

@@ -1,6 +1,6 @@
 ghost use Rattle.std.specs.Prelude.{◌≡◌, List, Err};
 ghost use Rattle.heap_page.specs.Item.{Item};
-ghost use Rattle.wal_bodies.specs.After.{answered};
+ghost use Rattle.heap_redo.specs.After.{answered};
 ghost use Rattle.heap_redo.specs.Refused.{refusal_of, fault_at, pool_fault_at};
 
 use heap_page::PageError;

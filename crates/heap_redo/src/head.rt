@@ -1,6 +1,6 @@
 ghost use Rattle.std.specs.Prelude.{◌≡◌, ◌+◌, ◌≤◌, ◌++◌, length, take};
 ghost use Rattle.byteorder.specs.Endian.{little_bytes};
-ghost use Rattle.wal_bodies.specs.Heads.{head_of, head_bytes, set_for, marked_mask, marked_mask2, marked, pointing_to, hot, pointing_after_delete, taken_back, deleted, replaced, unlinked_if_locked, locked};
+ghost use Rattle.heap_redo.specs.TupleHeads.{head_of, head_bytes, set_for, marked_mask, marked_mask2, marked, pointing_to, hot, pointing_after_delete, taken_back, deleted, replaced, unlinked_if_locked, locked};
 
 use crate::bits::{
     EXCLUSIVE, IS_MULTI, KEY_SHARE, KEYS_UPDATED, LOCK_ONLY, PARTITION_MOVE, TAKEN_BACK, XMAX_BITS,
@@ -32,7 +32,7 @@ fn set_for(bits: u8, bit: u8, flag: u16) -> u16
 }
 
 /// The infomask after a mark.
-#[tactic(auto, unfolding(wal_bodies::specs::Heads::marked_mask))]
+#[tactic(auto, unfolding(crate::specs::TupleHeads::marked_mask))]
 fn marked_mask(bits: u8, mask: u16) -> u16
     ensures { result ≡ marked_mask bits mask }
 {
@@ -44,7 +44,7 @@ fn marked_mask(bits: u8, mask: u16) -> u16
 }
 
 /// The infomask2 after a mark.
-#[tactic(auto, unfolding(wal_bodies::specs::Heads::marked_mask2))]
+#[tactic(auto, unfolding(crate::specs::TupleHeads::marked_mask2))]
 fn marked_mask2(bits: u8, mask2: u16) -> u16
     ensures { result ≡ marked_mask2 bits mask2 }
 {
@@ -55,7 +55,7 @@ impl Header {
     ghost use Rattle.heap_redo.specs.Heads.{head_in};
 
     /// The header of a tuple.
-    #[tactic(auto, unfolding(wal_bodies::specs::Heads::head_of))]
+    #[tactic(auto, unfolding(crate::specs::TupleHeads::head_of))]
     pub fn read(tuple: &[u8]) -> Header
         requires { 23 ≤ length tuple.now }
         ensures { head_in result ≡ head_of tuple.now }
@@ -151,7 +151,7 @@ impl Header {
     }
 
     /// The header of a tuple that is deleted where it stands, at this block and line.
-    #[tactic(auto, unfolding(wal_bodies::specs::Heads::deleted))]
+    #[tactic(auto, unfolding(crate::specs::TupleHeads::deleted))]
     pub fn deleted(self, xmax: u32, bits: u8, flags: u8, block: u32, line: u16) -> Header
         ensures { head_in result ≡ deleted xmax bits flags block line (head_in self) }
     {
@@ -162,7 +162,7 @@ impl Header {
     }
 
     /// The header of an updated tuple, whose next version is at this place.
-    #[tactic(auto, unfolding(wal_bodies::specs::Heads::replaced))]
+    #[tactic(auto, unfolding(crate::specs::TupleHeads::replaced))]
     pub fn replaced(self, xmax: u32, bits: u8, is_hot: bool, block: u32, line: u16) -> Header
         ensures { head_in result ≡ replaced xmax bits is_hot block line (head_in self) }
     {
@@ -181,7 +181,7 @@ impl Header {
     }
 
     /// The header of a tuple that is locked where it stands, at this block and line.
-    #[tactic(auto, unfolding(wal_bodies::specs::Heads::locked))]
+    #[tactic(auto, unfolding(crate::specs::TupleHeads::locked))]
     pub fn locked(self, xmax: u32, bits: u8, block: u32, line: u16) -> Header
         ensures { head_in result ≡ locked xmax bits block line (head_in self) }
     {

@@ -2,8 +2,8 @@ ghost use Rattle.std.specs.Prelude.{◌≡◌, ◌++◌, Err, IfOk, IfErr};
 ghost use Rattle.heap_page.specs.Item.{numbered, tuple_in};
 ghost use Rattle.heap_page.specs.Page.{IsPage, items_of};
 ghost use Rattle.heap_page.specs.Put.{set_head_answer};
-ghost use Rattle.wal_bodies.specs.Heads.{Head, head_of, head_bytes, marked, pointing_to, deleted, locked};
-ghost use Rattle.wal_bodies.specs.After.{answered, with_header, change_head, update_old, put};
+ghost use Rattle.heap_redo.specs.TupleHeads.{Head, head_of, head_bytes, marked, pointing_to, deleted, locked};
+ghost use Rattle.heap_redo.specs.After.{answered, with_header, change_head, update_old, put};
 ghost use Rattle.heap_redo.specs.Heads.{head_in};
 ghost use Rattle.heap_redo.specs.Refused.{refusal_of, outcome};
 
@@ -37,7 +37,7 @@ fn put_header(page: &mut Page, line: u16, header: Header) -> Result<(), Refusal>
 }
 
 /// The tuple of a line is deleted.
-#[tactic(auto, unfolding(wal_bodies::specs::After::change_head))]
+#[tactic(auto, unfolding(crate::specs::After::change_head))]
 pub fn delete(
     page: &mut Page,
     block: u32,
@@ -56,7 +56,7 @@ pub fn delete(
 }
 
 /// The tuple of a line points to a newer version at this place.
-#[tactic(auto, unfolding(wal_bodies::specs::After::change_head, wal_bodies::specs::After::update_old))]
+#[tactic(auto, unfolding(crate::specs::After::change_head, crate::specs::After::update_old))]
 pub fn update_old(
     page: &mut Page,
     line: u16,
@@ -80,7 +80,7 @@ pub fn update_old(
 }
 
 /// The tuple of a line is inserted for good.
-#[tactic(auto, unfolding(wal_bodies::specs::After::change_head))]
+#[tactic(auto, unfolding(crate::specs::After::change_head))]
 pub fn confirm(page: &mut Page, block: u32, line: u16) -> Result<(), Refusal>
     requires { IsPage page.old }
     ensures answer { outcome (items_of page.new) result
@@ -92,7 +92,7 @@ pub fn confirm(page: &mut Page, block: u32, line: u16) -> Result<(), Refusal>
 }
 
 /// The tuple of a line is locked.
-#[tactic(auto, unfolding(wal_bodies::specs::After::change_head))]
+#[tactic(auto, unfolding(crate::specs::After::change_head))]
 pub fn lock(page: &mut Page, block: u32, line: u16, xmax: u32, bits: u8) -> Result<(), Refusal>
     requires { IsPage page.old }
     ensures answer { outcome (items_of page.new) result
@@ -104,7 +104,7 @@ pub fn lock(page: &mut Page, block: u32, line: u16, xmax: u32, bits: u8) -> Resu
 }
 
 /// The tuple of a line, which has a newer version, is locked.
-#[tactic(auto, unfolding(wal_bodies::specs::After::change_head))]
+#[tactic(auto, unfolding(crate::specs::After::change_head))]
 pub fn lock_updated(page: &mut Page, line: u16, xmax: u32, bits: u8) -> Result<(), Refusal>
     requires { IsPage page.old }
     ensures answer { outcome (items_of page.new) result
@@ -116,7 +116,7 @@ pub fn lock_updated(page: &mut Page, line: u16, xmax: u32, bits: u8) -> Result<(
 }
 
 /// A tuple of this header and these bytes behind it goes to a free line.
-#[tactic(auto, unfolding(wal_bodies::specs::After::put))]
+#[tactic(auto, unfolding(crate::specs::After::put))]
 pub fn put_tuple(page: &mut Page, line: u16, header: Header, rest: &[u8]) -> Result<(), Refusal>
     requires { IsPage page.old }
     ensures answer { outcome (items_of page.new) result

@@ -1,7 +1,7 @@
 ghost use Rattle.std.specs.Prelude.{◌≡◌, ◌+◌, ◌≤◌, ◌<◌, ◌==◌, bit_and, [], not, nat_lt, take, length, is_some, IfSome};
 ghost use Rattle.heap_page.specs.Item.{numbered, tuple_in};
 ghost use Rattle.heap_page.specs.Page.{IsPage, items_of};
-ghost use Rattle.wal_bodies.specs.After.{user_data, joined, number_of, put_version, update_old, update_within, update};
+ghost use Rattle.heap_redo.specs.After.{user_data, joined, number_of, put_version, update_old, update_within, update};
 ghost use Rattle.heap_redo.specs.Refused.{outcome};
 
 use crate::fault::Refusal;
@@ -76,7 +76,7 @@ fn update_within(
 }
 
 /// The old version points to the new one in this block.
-#[tactic(auto, unfolding(wal_bodies::specs::After::update_old))]
+#[tactic(auto, unfolding(crate::specs::After::update_old))]
 fn mark_old(page: &mut Page, versions: Versions, new_block: u32) -> Result<(), Refusal>
     requires { IsPage page.old }
     ensures answer { outcome (items_of page.new) result
@@ -135,7 +135,7 @@ fn number_of(id: u8, blocks: &[RecBlock]) -> Option<u32>
 }
 
 /// An update: block 1 has the old version, where that is in another block than the new one.
-#[tactic(auto, unfolding(wal_bodies::specs::After::update))]
+#[tactic(auto, unfolding(crate::specs::After::update))]
 pub fn update(
     page: &mut Page,
     rec: &Rec,

@@ -1,7 +1,7 @@
 ghost use Rattle.std.specs.Prelude.{◌≡◌, ◌+◌, ◌≤◌, ◌<◌, ◌++◌, take, length};
 ghost use Rattle.heap_page.specs.Item.{numbered, tuple_in};
 ghost use Rattle.heap_page.specs.Page.{IsPage, items_of};
-ghost use Rattle.wal_bodies.specs.After.{put, put_listed, tuple_of, user_data, joined};
+ghost use Rattle.heap_redo.specs.After.{put, put_listed, tuple_of, user_data, joined};
 ghost use Rattle.heap_redo.specs.Refused.{outcome};
 
 use crate::fault::Refusal;
@@ -11,7 +11,7 @@ use heap_page::{Item, Page, item};
 use wal_bodies::NewTuple;
 
 /// A tuple that this transaction puts at this place, with this xmax and these bytes behind its header.
-#[tactic(auto, unfolding(wal_bodies::specs::After::tuple_of))]
+#[tactic(auto, unfolding(crate::specs::After::tuple_of))]
 pub fn put_new(
     page: &mut Page,
     xid: u64,
@@ -72,7 +72,7 @@ fn append(bytes: &mut [u8; 8192], at: usize, part: &[u8]) -> usize
 }
 
 /// What stands behind the header of a new version of a tuple with these values, as far as a page goes.
-#[tactic(auto, unfolding(wal_bodies::specs::After::joined))]
+#[tactic(auto, unfolding(crate::specs::After::joined))]
 pub fn join(bytes: &mut [u8; 8192], tuple: &NewTuple, old: &[u8]) -> usize
     requires { tuple.now.prefix + tuple.now.suffix ≤ length old.now }
     ensures taken { take result bytes.new ≡ take 8192 (joined tuple.now old.now) }

@@ -1,3 +1,4 @@
 mod Hex
 mod Segments
 mod Slashes
+pub mod SpelledNumbers

@@ -17,9 +17,9 @@ use Rattle.heap_page.specs.Put.{put_answer, set_head_answer}
 use Rattle.heap_redo.specs.declared.fault.RedoFault.{RedoFault}
 use Rattle.heap_redo.specs.Redone.{View, grown, redone, redone_at, redone_block, view_with, with_seen}
 use Rattle.transaction_model.specs.Transactions.{committed}
-use Rattle.wal_bodies.specs.After.{after, after_change, applied, change_head, changed, changed_page, joined, put, put_listed, put_version, tuple_of, update, update_old, update_within}
+use Rattle.heap_redo.specs.After.{after, after_change, applied, change_head, changed, changed_page, joined, put, put_listed, put_version, tuple_of, update, update_old, update_within}
 use Rattle.wal_bodies.specs.HeapKinds.{same_locator}
-use Rattle.wal_bodies.specs.Heads.{head_bytes, head_of, marked_mask, marked_mask2, replaced}
+use Rattle.heap_redo.specs.TupleHeads.{head_bytes, head_of, marked_mask, marked_mask2, replaced}
 use Rattle.xact_redo.specs.TransactionsOf.{kind_of, transaction_of}
 use Rattle.row_model.specs.Versions.{RowStep, Version, changed_at, version_at, with_step, with_steps}
 use Rattle.row_model.specs.Origins.{LogOrigin, committed_in}

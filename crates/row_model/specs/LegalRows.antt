@@ -12,7 +12,7 @@ use Rattle.wal_bodies.specs.declared.types.Rec.{Rec}
 use Rattle.wal_bodies.specs.declared.types.RecKind.{RecKind}
 use Rattle.wal_bodies.specs.declared.types.RecKind.TheVariants.{Checkpoint}
 use Rattle.wal_bodies.specs.HeapKinds.{same_locator}
-use Rattle.wal_bodies.specs.After.{applied}
+use Rattle.heap_redo.specs.After.{applied}
 use Rattle.heap_redo.specs.Redone.{View, is_anew, is_left}
 use Rattle.transaction_model.specs.Transactions.{Kind, Commit, Abort, Assignment, Running, Shutdown, Online, Other}
 use Rattle.transaction_model.specs.LegalTransactions.{Legal}

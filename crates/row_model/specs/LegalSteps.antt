@@ -7,7 +7,7 @@ use Rattle.std.specs.Prelude.{◌≡◌, ◌⊎◌, ℕ, ◌≤◌, Bool, true, 
 use Rattle.pg_types.specs.declared.names.Locator.{Locator}
 use Rattle.wal_bodies.specs.declared.types.Rec.{Rec}
 use Rattle.wal_bodies.specs.declared.types.RecKind.{RecKind}
-use Rattle.wal_bodies.specs.Heads.{head_bytes, head_of}
+use Rattle.heap_redo.specs.TupleHeads.{head_bytes, head_of}
 use Rattle.heap_tuple.specs.Tuple.{xmin_of, infomask_of, has_bits, max_of}
 use Rattle.heap_tuple.specs.declared.tuple_view.MaxOf.{MaxOf}
 use Rattle.heap_page.specs.Put.{with_head}

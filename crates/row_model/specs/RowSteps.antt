@@ -10,9 +10,9 @@ use Rattle.wal_bodies.specs.declared.types.Rec.{Rec}
 use Rattle.wal_bodies.specs.declared.types.RecKind.{RecKind}
 use Rattle.wal_bodies.specs.declared.types.RecKind.TheVariants.{Insert, Delete, Update, Lock, MultiInsert, LockUpdated}
 use Rattle.wal_bodies.specs.Fields.{has}
-use Rattle.wal_bodies.specs.Heads.{marked_mask}
+use Rattle.heap_redo.specs.TupleHeads.{marked_mask}
 use Rattle.wal_bodies.specs.HeapKinds.{same_locator}
-use Rattle.wal_bodies.specs.After.{applied, joined, number_of, page_of_image, tuple_of, user_data}
+use Rattle.heap_redo.specs.After.{applied, joined, number_of, page_of_image, tuple_of, user_data}
 use Rattle.heap_tuple.specs.Tuple.{is_lock_only}
 use Rattle.heap_tuple.specs.declared.tuple_view.MaxOf.{MaxOf}
 use Rattle.heap_tuple.specs.declared.tuple_view.MaxOf.TheVariants.{None as NoDeleter, Xid as DeletedBy, Multi}

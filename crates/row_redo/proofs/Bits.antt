@@ -5,7 +5,7 @@ use Rattle.std.specs.Int.Bits.{and_zero_r}
 use Rattle.std.proofs.lemmas.Nat.Bits.{bit_at_and, bit_at_or, same_from_bits_below}
 use Rattle.heap_tuple.specs.Tuple.{has_bits, is_lock_only}
 use Rattle.wal_bodies.specs.Fields.{has}
-use Rattle.wal_bodies.specs.Heads.{without, set_for, marked_mask, marked_mask2}
+use Rattle.heap_redo.specs.TupleHeads.{without, set_for, marked_mask, marked_mask2}
 
 -- the bits n of an or are those of both
 and_or_both : (n a m : ℕ) → n < 2 ^ 16 → bit_and (bit_or a m) n ≡ bit_or (bit_and a n) (bit_and m n)

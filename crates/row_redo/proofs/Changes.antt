@@ -12,8 +12,8 @@ use Rattle.wal_bodies.specs.declared.types.Rec.{Rec}
 use Rattle.wal_bodies.specs.declared.types.RecKind.{RecKind}
 use Rattle.wal_bodies.specs.declared.types.RecKind.TheVariants.{Checkpoint, BackupEnd, Parameters, FullPageWrites, Images, Overwrite, Ended, Running, Insert, Delete, Update, Confirm, Lock, MultiInsert, LockUpdated, Other}
 use Rattle.wal_bodies.specs.Fields.{has}
-use Rattle.wal_bodies.specs.Heads.{Head, marked, deleted, replaced, locked}
-use Rattle.wal_bodies.specs.After.{BlockRefusal, no_tuple, ◌>>=◌, applied, put, put_listed, put_version, change_head, tuple_of, joined, user_data, is_short, update_old, update_within, update, number_of, changed}
+use Rattle.heap_redo.specs.TupleHeads.{Head, marked, deleted, replaced, locked}
+use Rattle.heap_redo.specs.After.{BlockRefusal, no_tuple, ◌>>=◌, applied, put, put_listed, put_version, change_head, tuple_of, joined, user_data, is_short, update_old, update_within, update, number_of, changed}
 use Rattle.row_model.specs.Versions.{Version, RowStep, Born, Deleter, Undone, version_at, with_step, with_steps}
 use Rattle.row_model.specs.RowSteps.{deleter_of_mark, births_written, births, version_written, version_put, values_of, update_steps, own_steps}
 use Rattle.row_model.specs.Shows.{ShowsPlace, ShowsBlock}

@@ -11,8 +11,8 @@ use Rattle.byteorder.specs.Numbers.{little_number-reads_back, little_from-lt}
 use Rattle.pg_types.specs.Numbers.{number_at}
 use Rattle.heap_tuple.specs.Tuple.{IsTuple, is_tuple, is_tuple_head, xmin_of, xmax_of, infomask_of, infomask2_of, hoff_of, is_lock_only}
 use Rattle.wal_bodies.specs.Fields.{has}
-use Rattle.wal_bodies.specs.Heads.{Head, head_of, head_bytes, marked_mask, marked, pointing_to, hot, pointing_after_delete, deleted, replaced, locked}
-use Rattle.wal_bodies.specs.After.{user_data}
+use Rattle.heap_redo.specs.TupleHeads.{Head, head_of, head_bytes, marked_mask, marked, pointing_to, hot, pointing_after_delete, deleted, replaced, locked}
+use Rattle.heap_redo.specs.After.{user_data}
 use Rattle.record_numbers.specs.Fits.{AreBytes}
 use Rattle.row_redo.proofs.Bits.{mark-columns, mark2-small, with-columns, without-columns}
 

@@ -10,7 +10,7 @@ use Rattle.tuple_visibility.specs.Visible.{xmin_marks}
 use Rattle.wal_bodies.specs.declared.types.Rec.{Rec}
 use Rattle.row_model.specs.Origins.{LogOrigin}
 use Rattle.wal_bodies.specs.Fields.{has}
-use Rattle.wal_bodies.specs.Heads.{Head, head_of, head_bytes, marked_mask, pointing_to}
+use Rattle.heap_redo.specs.TupleHeads.{Head, head_of, head_bytes, marked_mask, pointing_to}
 use Rattle.row_model.specs.Versions.{Version, Inserter, Nobody, Always, By, taken_back, with_deleter}
 use Rattle.row_model.specs.RowSteps.{deleter_of_mark}
 use Rattle.row_model.specs.Shows.{StoresSame, ShowsInserter, ShowsDeleter, Shows}

@@ -6,8 +6,8 @@ use Rattle.heap_page.specs.Item.{Item, unused, normal, redirect, dead, before_tr
 use Rattle.heap_page.specs.Put.{is_free, size_with, put_answer, with_head, set_head_answer}
 use Rattle.heap_page.specs.declared.line.PageError.{PageError}
 use Rattle.heap_page.specs.declared.line.PageError.TheVariants.{Full, NoLine, BadPage}
-use Rattle.wal_bodies.specs.Heads.{Head, head_of, head_bytes}
-use Rattle.wal_bodies.specs.After.{answered, put, change_head}
+use Rattle.heap_redo.specs.TupleHeads.{Head, head_of, head_bytes}
+use Rattle.heap_redo.specs.After.{answered, put, change_head}
 
 -- a line shows the same with and without the unused lines at the end
 item_in-before_trimmed : (item : Item) (items : List Item) (k : ℕ) → item_in (before_trimmed item items) k ≡ item_in (item ∷ items) k

@@ -7,8 +7,8 @@ use Rattle.tuple_visibility.specs.Visible.{xmin_marks}
 use Rattle.wal_bodies.specs.declared.types.Rec.{Rec}
 use Rattle.row_model.specs.Origins.{LogOrigin}
 use Rattle.wal_bodies.specs.Fields.{has}
-use Rattle.wal_bodies.specs.Heads.{Head, head_of, pointing_to, deleted}
-use Rattle.wal_bodies.specs.After.{put, change_head}
+use Rattle.heap_redo.specs.TupleHeads.{Head, head_of, pointing_to, deleted}
+use Rattle.heap_redo.specs.After.{put, change_head}
 use Rattle.row_model.specs.Versions.{Version, Always, By, Born, Deleter, Undone, is_frozen, taken_back, version_at, version_born, changed_at, with_deleter, with_step}
 use Rattle.row_model.specs.RowSteps.{deleter_of_mark}
 use Rattle.row_model.specs.Shows.{ShowsInserter, ShowsDeleter, Shows, ShowsPlace, ShowsBlock}

@@ -7,7 +7,7 @@ use Rattle.wal_bodies.specs.declared.types.Rec.{Rec}
 use Rattle.wal_bodies.specs.declared.types.RecKind.{RecKind}
 use Rattle.wal_bodies.specs.declared.types.RecKind.TheVariants.{Checkpoint, BackupEnd, Parameters, FullPageWrites, Images, Overwrite, Ended, Running, Insert, Delete, Update, Confirm, Lock, MultiInsert, LockUpdated, Other}
 use Rattle.wal_bodies.specs.Fields.{has}
-use Rattle.wal_bodies.specs.After.{applied, number_of}
+use Rattle.heap_redo.specs.After.{applied, number_of}
 use Rattle.heap_page.specs.Item.{Item, unused, normal, redirect, dead}
 use Rattle.row_model.specs.Versions.{Version, RowStep, Deleter, Undone, version_at}
 use Rattle.row_model.specs.RowSteps.{deleter_of_mark, items_in, births_written, births_shown, births, version_written, version_put, values_of, update_steps, own_steps, puts_tuples, births_of_items, whole_steps, block_steps}

@@ -11,7 +11,7 @@ use Rattle.heap_page.specs.Put.{restored}
 use Rattle.heap_page.specs.Law.{TuplesKeepRule, ZerosHaveNone}
 use Rattle.page_store.specs.Content.{zeros}
 use Rattle.wal_record.specs.declared.new.NewImage.{NewImage}
-use Rattle.wal_bodies.specs.After.{page_of_image}
+use Rattle.heap_redo.specs.After.{page_of_image}
 use Rattle.heap_redo.specs.Redone.{seen, seen_page, bad_block}
 use Rattle.row_model.specs.RowSteps.{items_in}
 use Rattle.record_numbers.specs.Fits.{AreBytes}

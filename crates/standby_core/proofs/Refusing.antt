@@ -1,7 +1,7 @@
 -- Redo of a record is refused for a cause, and never for want of memory.
 use Rattle.std.proofs.Common.{◌≡◌, ℕ, List, [], ◌∷◌, Option, Some, None, Result, Ok, Err, refl, ◌∙◌, ap}
 use Rattle.pg_types.specs.declared.names.Locator.{Locator}
-use Rattle.wal_bodies.specs.After.{BlockRefusal, no_page, no_tuple, page_full, bad_page}
+use Rattle.heap_redo.specs.After.{BlockRefusal, no_page, no_tuple, page_full, bad_page}
 use Rattle.wal_bodies.specs.declared.types.Rec.{Rec}
 use Rattle.wal_bodies.specs.declared.types.RecBlock.{RecBlock}
 use Rattle.heap_redo.specs.declared.fault.RedoFault.{RedoFault}

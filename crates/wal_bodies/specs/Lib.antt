@@ -4,6 +4,4 @@ pub mod HeapKinds
 pub mod Tuples
 pub mod Typed
 pub mod Xids
-pub mod Heads
-pub mod After
 pub mod Laws

@@ -1,3 +1,2 @@
-pub mod SpelledNumbers
 pub mod Rules
 pub mod Laws

@@ -1,7 +1,6 @@
 pub mod Walking
 pub mod Laid
 pub mod Finding
-pub mod SpelledNumbers
 pub mod SpelledParts
 pub mod SpelledRecord
 pub mod CrcFits

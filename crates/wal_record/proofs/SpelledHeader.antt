@@ -7,7 +7,7 @@ use Rattle.std.proofs.lemmas.List.Elements.{All-drop}
 use Rattle.pg_types.specs.Numbers.{number_at}
 use Rattle.wal_record.specs.Spelling.{AreBytes, byte, short, long, front_of}
 use Rattle.wal_record.proofs.SpelledParts.{byte-below}
-use Rattle.wal_record.proofs.SpelledNumbers.{read_back, spelled_at}
+use Rattle.pg_types.proofs.SpelledNumbers.{read_back, spelled_at}
 
 -- a text with a header
 abbrev pub text_of : ℕ → ℕ → ℕ → ℕ → ℕ → ℕ → ℕ → List ℕ → List ℕ

@@ -17,7 +17,7 @@ use Rattle.wal_record.specs.declared.parts.ImageHeader.{ImageHeader}
 use Rattle.wal_record.specs.declared.parts.Seen.{Seen}
 use Rattle.wal_record.specs.Parts.{◌>>=◌, number_from, has, has_hole, is_compressed, any_compressed, fits_page, data_agrees, image_header, image_behind, image_at, image_from, locator_at, locator_from, flags_at, block_at, block_from, part_from, part_at}
 use Rattle.wal_record.specs.Spelling.{AreBytes, byte, short, long, image_text, locator_text, block_text, part_text, IsImage, ImageAgrees, IsLocator, RelationAgrees, IsBlock, MayFollow}
-use Rattle.wal_record.proofs.SpelledNumbers.{bytes_of_number, read_back}
+use Rattle.pg_types.proofs.SpelledNumbers.{bytes_of_number, read_back}
 use Rattle.wal_record.proofs.Comparisons.{eq-false, eq-from, or-false, or-parts}
 
 -- ---- tools

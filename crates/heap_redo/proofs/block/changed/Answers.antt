@@ -1,7 +1,7 @@
 use Rattle.std.proofs.Common.{arith, ap, ◌∙◌, Ok, Result, List}
 use Rattle.std.proofs.lemmas.Grind.{common_steps}
 use Rattle.heap_page.specs.Item.{Item}
-use Rattle.wal_bodies.specs.After.{BlockRefusal}
+use Rattle.heap_redo.specs.After.{BlockRefusal}
 use Rattle.heap_redo.specs.Refused.{refusal_of}
 use Rattle.heap_redo.proofs.OneBlock.{below-last, page-done, page-refused, page-changed}
 use Rattle.heap_redo.proofs.block.changed.Goals as goal

@@ -1,5 +1,5 @@
 use Rattle.std.proofs.Common.{ap, ◌∙◌, ◌≡◌, None}
-use Rattle.wal_bodies.specs.After.{applied, paged, changed}
+use Rattle.heap_redo.specs.After.{applied, paged, changed}
 use Rattle.heap_redo.proofs.OneBlock.{below-last, paged-outcome, no_image, unapplied, restored-image, after-restored, after-anew}
 use Rattle.heap_redo.proofs.block.made_anew.Goals as goal
 use Rattle.heap_redo.proofs.block.made_anew.Goals.{in-Some+else-image, in_default}

@@ -1,4 +1,4 @@
-use Rattle.wal_bodies.specs.Heads.{Head, pointing_to}
+use Rattle.heap_redo.specs.TupleHeads.{Head, pointing_to}
 use Rattle.std.proofs.Common.{arith}
 use Rattle.std.proofs.lemmas.Grind.{common_steps}
 use Rattle.heap_redo.proofs.line.confirm.Goals as goal

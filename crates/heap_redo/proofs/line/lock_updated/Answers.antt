@@ -1,4 +1,4 @@
-use Rattle.wal_bodies.specs.Heads.{Head, marked}
+use Rattle.heap_redo.specs.TupleHeads.{Head, marked}
 use Rattle.std.proofs.Common.{arith}
 use Rattle.std.proofs.lemmas.Grind.{common_steps}
 use Rattle.heap_redo.proofs.line.lock_updated.Goals as goal

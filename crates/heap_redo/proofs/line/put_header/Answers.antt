@@ -1,8 +1,8 @@
 use Rattle.std.proofs.Common.{ap, ◌∙◌}
 use Rattle.heap_page.specs.Page.{items_of}
 use Rattle.heap_page.specs.Put.{set_head_answer}
-use Rattle.wal_bodies.specs.Heads.{head_bytes}
-use Rattle.wal_bodies.specs.After.{answered, with_header}
+use Rattle.heap_redo.specs.TupleHeads.{head_bytes}
+use Rattle.heap_redo.specs.After.{answered, with_header}
 use Rattle.heap_redo.specs.Heads.{head_in}
 use Rattle.heap_redo.proofs.line.put_header.Goals as goal
 

@@ -2,8 +2,8 @@ use Rattle.std.proofs.Common.{ap, ◌∙◌, ◌-◌, ◌++◌}
 use Rattle.heap_page.specs.Item.{normal, with_item}
 use Rattle.heap_page.specs.Page.{items_of}
 use Rattle.heap_page.specs.Put.{put_answer}
-use Rattle.wal_bodies.specs.Heads.{head_bytes}
-use Rattle.wal_bodies.specs.After.{answered, put}
+use Rattle.heap_redo.specs.TupleHeads.{head_bytes}
+use Rattle.heap_redo.specs.After.{answered, put}
 use Rattle.heap_redo.specs.Heads.{head_in}
 use Rattle.heap_redo.proofs.line.put_tuple.Goals as goal
 

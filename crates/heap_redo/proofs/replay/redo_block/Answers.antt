@@ -1,6 +1,6 @@
 use Rattle.std.proofs.Common.{ap, sym, ◌∙◌, inl, inr}
 use Rattle.pg_types.specs.declared.names.Tag.{Tag}
-use Rattle.wal_bodies.specs.After.{no_page}
+use Rattle.heap_redo.specs.After.{no_page}
 use Rattle.heap_redo.specs.Refused.{fault_at}
 use Rattle.page_store.specs.Content.{content}
 use Rattle.heap_redo.specs.Redone.{view_of, redone_block, redone_in, redone_at, view_by}

@@ -1,5 +1,5 @@
 use Rattle.std.proofs.Common.{◌≡◌, drop}
-use Rattle.wal_bodies.specs.After.{number_of}
+use Rattle.heap_redo.specs.After.{number_of}
 use Rattle.heap_redo.proofs.update.number_of.Given as goal
 
 abbrev pub invariant-loop-block : goal.invariant-loop-block

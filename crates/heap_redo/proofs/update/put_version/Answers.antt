@@ -1,6 +1,6 @@
 use Rattle.std.proofs.Common.{ap, sym, ◌≡◌, ◌∙◌, [], get_or}
 use Rattle.heap_page.specs.Page.{items_of}
-use Rattle.wal_bodies.specs.After.{put, tuple_of}
+use Rattle.heap_redo.specs.After.{put, tuple_of}
 use Rattle.heap_redo.proofs.Updates.{joined-none, put_version-none, put_version-first, none-length, some-length}
 use Rattle.heap_redo.proofs.update.put_version.Goals as goal
 

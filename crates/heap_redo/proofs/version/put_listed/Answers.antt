@@ -2,7 +2,7 @@ use Rattle.std.proofs.Common.{arith, ◌∙◌, ap, sym, get_or}
 use Rattle.std.proofs.lemmas.Grind.{common_steps}
 use Rattle.std.proofs.lemmas.List.{get_or_default}
 use Rattle.heap_page.specs.Page.{items_of}
-use Rattle.wal_bodies.specs.After.{tuple_of, put}
+use Rattle.heap_redo.specs.After.{tuple_of, put}
 use Rattle.heap_redo.specs.Refused.{refusal_of}
 use Rattle.heap_redo.proofs.Versions.{listed-next, listed-refused, listed-end}
 use Rattle.heap_redo.proofs.version.put_listed.Goals as goal

@@ -1,6 +1,6 @@
 use Rattle.std.proofs.Common.{◌≡◌, drop}
 use Rattle.heap_page.specs.Page.{IsPage, items_of}
-use Rattle.wal_bodies.specs.After.{put_listed}
+use Rattle.heap_redo.specs.After.{put_listed}
 use Rattle.heap_redo.proofs.version.put_listed.Given as goal
 
 abbrev pub invariant-loop-k : goal.invariant-loop-k

@@ -1,6 +1,6 @@
 use Rattle.std.proofs.Common.{ap, ◌∙◌, ◌++◌, ◌∷◌, [], ◌/◌, ◌%◌, ◌≡◌, ℕ, List, take}
 use Rattle.byteorder.specs.Endian.{little_bytes}
-use Rattle.wal_bodies.specs.Heads.{head_bytes}
+use Rattle.heap_redo.specs.TupleHeads.{head_bytes}
 use Rattle.heap_redo.proofs.Bytes.{set-last, low_half}
 use Rattle.heap_redo.proofs.head.Header.bytes.Goals as goal
 

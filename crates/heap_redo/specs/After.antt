@@ -13,7 +13,7 @@ use Rattle.wal_bodies.specs.declared.types.RecBlock.{RecBlock}
 use Rattle.wal_bodies.specs.declared.types.Rec.{Rec}
 use Rattle.wal_bodies.specs.declared.types.RecKind.{RecKind}
 use Rattle.wal_bodies.specs.declared.types.RecKind.TheVariants.{Checkpoint, BackupEnd, Parameters, FullPageWrites, Images, Overwrite, Ended, Running, Insert, Delete, Update, Confirm, Lock, MultiInsert, LockUpdated, Other}
-use Rattle.wal_bodies.specs.Heads.{Head, head_of, head_bytes, marked, pointing_to, deleted, replaced, locked}
+use Rattle.heap_redo.specs.TupleHeads.{Head, head_of, head_bytes, marked, pointing_to, deleted, replaced, locked}
 
 -- why a record is refused at a block: the block is missing, a line is not as the record has it, there is
 -- no room for a tuple that goes to a line, or the page is none
