@@ -1,6 +1,6 @@
 ghost use Rattle.std.specs.Prelude.{◌≡◌, ◌⊎◌, ◌+◌, ◌^◌, ◌≤◌, ◌<◌, ◌-◌, length, IfOk, IfErr, unwrap_or};
 ghost use Rattle.heap_tuple.specs.declared.cell.Cell.TheVariants.{Null};
-ghost use Rattle.heap_tuple.specs.Values.{aligned_to, within, fixed_span, varlena_at, varlena_span, span_of, truth_of, cell_of, least_width, value_of, has_value, column_value, fault_in, cells_from, row_of};
+ghost use Rattle.heap_tuple.specs.Values.{aligned_to, within, fixed_span, varlena_at, varlena_span, span_of, truth_of, cell_of, least_width, value_of, has_value, column_value, fault_in, cells_from, row_of, SaysRow, SaysValue};
 ghost use Rattle.heap_tuple.specs.Tuple.{columns_of, hoff_of};
 
 use crate::cell::{Cell, Column, Kind, Row};
@@ -36,12 +36,29 @@ impl From<NoMemory> for RowFault {
     }
 }
 
+/// Why one value is refused.
+#[derive(Clone, Copy, Debug, PartialEq, Eq)]
+pub enum ValueRefusal {
+    Toasted,
+    Bad,
+}
+
 /// Why one value is not given.
 #[derive(Clone, Copy, Debug, PartialEq, Eq)]
 pub enum ValueFault {
-    Toasted,
-    Bad,
+    Refused(ValueRefusal),
     Memory,
+}
+
+impl From<ValueRefusal> for ValueFault {
+    ghost use Rattle.std.specs.Prelude.{◌≡◌};
+    ghost use Rattle.heap_tuple.specs.declared.values.ValueFault.TheVariants.{Refused};
+
+    ghost from_gives = { λ refusal fault. fault ≡ Refused refusal };
+
+    fn from(refusal: ValueRefusal) -> ValueFault {
+        ValueFault::Refused(refusal)
+    }
 }
 
 impl From<NoMemory> for ValueFault {
@@ -67,14 +84,14 @@ fn aligned_to(n: usize, at: usize) -> usize
 }
 
 /// The place from `start` up to `end`, where the data reaches so far.
-fn within(content: &[u8], start: usize, end: usize) -> Result<(usize, usize), ValueFault>
+fn within(content: &[u8], start: usize, end: usize) -> Result<(usize, usize), ValueRefusal>
     ensures value { result ≡ within content.now start end }
     ensures placed { IfOk result (λ s. (s.0 ≡ start) × (s.1 ≡ end) × (end ≤ length content.now)) }
 {
     if end <= content.len() {
         Ok((start, end))
     } else {
-        Err(ValueFault::Bad)
+        Err(ValueRefusal::Bad)
     }
 }
 
@@ -84,7 +101,7 @@ fn fixed_span(
     align: usize,
     content: &[u8],
     at: usize,
-) -> Result<(usize, usize), ValueFault>
+) -> Result<(usize, usize), ValueRefusal>
     requires positive { 0 < align }
     requires small { align ≤ 8 }
     requires narrow { width ≤ 16 }
@@ -98,35 +115,35 @@ fn fixed_span(
 
 /// Where the content of the varlena stands whose header begins at `at`.
 #[tactic(auto, using(std::proofs::lemmas::Bool::Decides::nat_tests), unfolding(crate::specs::Values::varlena_at))]
-fn varlena_at(content: &[u8], at: usize) -> Result<(usize, usize), ValueFault>
+fn varlena_at(content: &[u8], at: usize) -> Result<(usize, usize), ValueRefusal>
     ensures value { result ≡ varlena_at content.now at }
     ensures placed { IfOk result (λ s. (s.0 ≤ s.1) × (s.1 ≤ length content.now)) }
 {
     if content.len() <= at {
-        return Err(ValueFault::Bad);
+        return Err(ValueRefusal::Bad);
     }
     let first = content[at] as usize;
     if first == 1 {
-        return Err(ValueFault::Toasted);
+        return Err(ValueRefusal::Toasted);
     }
     if first % 2 == 1 {
         return within(content, at + 1, at + first / 2);
     }
     if content.len() < at + 4 {
-        return Err(ValueFault::Bad);
+        return Err(ValueRefusal::Bad);
     }
     if first % 4 == 2 {
-        return Err(ValueFault::Toasted);
+        return Err(ValueRefusal::Toasted);
     }
     let size = (u32_at(content, at) / 4) as usize;
     if size < 4 {
-        return Err(ValueFault::Bad);
+        return Err(ValueRefusal::Bad);
     }
     within(content, at + 4, at + size)
 }
 
 /// Where the content of the next varlena stands, whose header is aligned where a zero byte stands.
-fn varlena_span(content: &[u8], at: usize) -> Result<(usize, usize), ValueFault>
+fn varlena_span(content: &[u8], at: usize) -> Result<(usize, usize), ValueRefusal>
     requires { at ≤ length content.now }
     ensures value { result ≡ varlena_span content.now at }
     ensures placed { IfOk result (λ s. (s.0 ≤ s.1) × (s.1 ≤ length content.now)) }
@@ -139,7 +156,7 @@ fn varlena_span(content: &[u8], at: usize) -> Result<(usize, usize), ValueFault>
 
 /// Where the next value of this type stands.
 #[tactic(auto, unfolding(crate::specs::Values::span_of))]
-fn span(kind: Kind, content: &[u8], at: usize) -> Result<(usize, usize), ValueFault>
+fn span(kind: Kind, content: &[u8], at: usize) -> Result<(usize, usize), ValueRefusal>
     requires { at ≤ length content.now }
     ensures value { result ≡ span_of kind content.now at }
     ensures placed { IfOk result (λ s. (s.0 + least_width kind ≤ s.1) × (s.1 ≤ length content.now)) }
@@ -160,19 +177,19 @@ fn span(kind: Kind, content: &[u8], at: usize) -> Result<(usize, usize), ValueFa
 
 /// The truth value of a byte.
 #[tactic(auto, using(std::proofs::lemmas::Bool::Decides::nat_tests))]
-fn truth(byte: u8) -> Result<Cell, ValueFault>
+fn truth(byte: u8) -> Result<Cell, ValueRefusal>
     ensures { result ≡ truth_of byte }
 {
     match byte {
         0 => Ok(Cell::Bool(false)),
         1 => Ok(Cell::Bool(true)),
-        _ => Err(ValueFault::Bad),
+        _ => Err(ValueRefusal::Bad),
     }
 }
 
 /// A cell with a copy of these bytes.
 fn bytes_cell(alloc: Global, bytes: &[u8]) -> Result<Cell, ValueFault>
-    ensures { (result ≡ Err ValueFault.Memory) ⊎ (result ≡ Ok (Cell.Bytes bytes.now)) }
+    ensures { SaysValue result (Ok (Cell.Bytes bytes.now)) }
 {
     Ok(Cell::Bytes(Bytes::from_slice(alloc, bytes)?))
 }
@@ -181,10 +198,10 @@ fn bytes_cell(alloc: Global, bytes: &[u8]) -> Result<Cell, ValueFault>
 #[tactic(auto, unfolding(crate::specs::Values::cell_of, pg_types::specs::Numbers::number_at))]
 fn cell(alloc: Global, kind: Kind, bytes: &[u8]) -> Result<Cell, ValueFault>
     requires { least_width kind ≤ length bytes.now }
-    ensures { (result ≡ Err ValueFault.Memory) ⊎ (result ≡ cell_of kind bytes.now) }
+    ensures { SaysValue result (cell_of kind bytes.now) }
 {
     match kind {
-        Kind::Bool => truth(bytes[0]),
+        Kind::Bool => Ok(truth(bytes[0])?),
         Kind::Int2 => Ok(Cell::Int(i64::from(LittleEndian::read_i16(bytes)))),
         Kind::Int4 => Ok(Cell::Int(i64::from(LittleEndian::read_i32(bytes)))),
         Kind::Int8 => Ok(Cell::Int(LittleEndian::read_i64(bytes))),
@@ -200,7 +217,7 @@ fn cell(alloc: Global, kind: Kind, bytes: &[u8]) -> Result<Cell, ValueFault>
 /// The next value of this type in the user content, and where it ends.
 fn value(alloc: Global, kind: Kind, content: &[u8], at: usize) -> Result<(Cell, usize), ValueFault>
     requires { at ≤ length content.now }
-    ensures value { (result ≡ Err ValueFault.Memory) ⊎ (result ≡ value_of kind content.now at) }
+    ensures value { SaysValue result (value_of kind content.now at) }
     ensures inside { IfOk result (λ r. r.1 ≤ length content.now) }
 {
     let (start, end) = span(kind, content, at)?;
@@ -231,7 +248,7 @@ fn column_value(
     column: &Column,
 ) -> Result<(Cell, usize), ValueFault>
     requires { at ≤ length tuple.now - hoff_of tuple.now }
-    ensures value { (result ≡ Err ValueFault.Memory) ⊎ (result ≡ column_value tuple.now i at column.now) }
+    ensures value { SaysValue result (column_value tuple.now i at column.now) }
     ensures inside { IfOk result (λ r. r.1 ≤ length tuple.now - hoff_of tuple.now) }
     ensures stored { IfErr result (λ fault. (fault ≡ ValueFault.Memory) ⊎ (i < 2048)) }
 {
@@ -260,8 +277,8 @@ fn fault_in(i: usize, fault: ValueFault) -> RowFault
     ensures { result ≡ fault_in i fault }
 {
     match fault {
-        ValueFault::Toasted => RowFault::Toasted { column: i as u16 },
-        ValueFault::Bad => RowFault::Bad { column: i as u16 },
+        ValueFault::Refused(ValueRefusal::Toasted) => RowFault::Toasted { column: i as u16 },
+        ValueFault::Refused(ValueRefusal::Bad) => RowFault::Bad { column: i as u16 },
         ValueFault::Memory => RowFault::Memory,
     }
 }
@@ -272,7 +289,7 @@ impl<'a> TupleView<'a> {
     /// columns than are described.
     #[tactic(auto, using(std::proofs::lemmas::Bool::Decides::nat_tests), unfolding(crate::specs::Values::row_of))]
     pub fn deform(&self, alloc: Global, columns: &[Column]) -> Result<Row, RowFault>
-        ensures { (result ≡ Err RowFault.Memory) ⊎ (result ≡ row_of self.now columns.now) }
+        ensures { SaysRow result (row_of self.now columns.now) }
     {
         if columns.len() < self.columns() as usize {
             let last = columns.len().saturating_sub(1);
@@ -285,7 +302,7 @@ impl<'a> TupleView<'a> {
 
     /// The cells of the columns, one after the other.
     fn cells_of(&self, alloc: Global, columns: &[Column]) -> Result<Row, RowFault>
-        ensures { (result ≡ Err RowFault.Memory) ⊎ (result ≡ cells_from self.now 0 0 columns.now) }
+        ensures { SaysRow result (cells_from self.now 0 0 columns.now) }
     {
         let mut row = Row::new(alloc);
         let mut at = 0;

@@ -2,11 +2,10 @@
 use Rattle.std.proofs.Common.{◌≡◌, ℕ, ◌+◌, ◌-◌, ◌/◌, ◌≤◌, List, [], ◌∷◌, drop, get_or, Result, Ok, Err, arith, refl, sym, ap, ◌∙◌, subst}
 use Rattle.std.proofs.lemmas.List.{get_or-drop, drop-drop}
 use Rattle.heap_tuple.specs.Tuple.{hoff_of}
-use Rattle.heap_tuple.specs.Values.{has_value, column_value, row_from, cell_before, cells_from, row_of}
+use Rattle.heap_tuple.specs.Values.{RowRefusal, has_value, column_value, row_from, cell_before, cells_from, row_of}
 use Rattle.heap_tuple.specs.declared.cell.Cell.{Cell}
 use Rattle.heap_tuple.specs.declared.cell.Column.{Column}
-use Rattle.heap_tuple.specs.declared.values.ValueFault.{ValueFault}
-use Rattle.heap_tuple.specs.declared.values.RowFault.{RowFault}
+use Rattle.heap_tuple.specs.declared.values.ValueRefusal.{ValueRefusal}
 use Rattle.row_model.specs.Shows.{StoresSame}
 
 hoff_same : (tuple written : List ℕ) → drop 22 tuple ≡ drop 22 written → hoff_of tuple ≡ hoff_of written
@@ -51,10 +50,10 @@ column_same tuple written i at column same behind =
     cc
 
 rest_same :
-    (i : ℕ) (r : Result (Cell × ℕ) ValueFault) (f g : ℕ → Result (List Cell) RowFault) → ((next : ℕ) → f next ≡ g next)
+    (i : ℕ) (r : Result (Cell × ℕ) ValueRefusal) (f g : ℕ → Result (List Cell) RowRefusal) → ((next : ℕ) → f next ≡ g next)
     → row_from i r f ≡ row_from i r g
 rest_same i (Ok first) f g same = ap (cell_before first.0) (same first.1)
-rest_same i (Err flaw) f g same = refl
+rest_same i (Err refusal) f g same = refl
 
 cells_same :
     (tuple written : List ℕ) (i at : ℕ) (columns : List Column) → StoresSame tuple written → 23 ≤ hoff_of written
@@ -62,7 +61,7 @@ cells_same :
 unfolding cells_from
 cells_same tuple written i at [] same behind = refl
 cells_same tuple written i at (column ∷ columns) same behind =
-    ap (λ (r : Result (Cell × ℕ) ValueFault). row_from i r (λ next. cells_from tuple (i + 1) next columns))
+    ap (λ (r : Result (Cell × ℕ) ValueRefusal). row_from i r (λ next. cells_from tuple (i + 1) next columns))
     (column_same tuple written i at column same behind)
     ∙ rest_same i (column_value written i at column) (λ next. cells_from tuple (i + 1) next columns)
     (λ next. cells_from written (i + 1) next columns)

@@ -3,10 +3,9 @@ use Rattle.std.proofs.Common.{◌≡◌, ℕ, zero, suc, ◌+◌, ◌<◌, ◌�
 use Rattle.std.proofs.lemmas.Bool.{true≢false}
 use Rattle.pg_types.specs.declared.status.Unknown.{Unknown}
 use Rattle.heap_tuple.specs.Tuple.{hoff_of}
-use Rattle.heap_tuple.specs.Values.{row_of}
+use Rattle.heap_tuple.specs.Values.{RowRefusal, row_of}
 use Rattle.heap_tuple.specs.declared.cell.Cell.{Cell}
 use Rattle.heap_tuple.specs.declared.cell.Column.{Column}
-use Rattle.heap_tuple.specs.declared.values.RowFault.{RowFault}
 use Rattle.heap_page.specs.Item.{Item, unused, normal, redirect, dead, is_normal, item_in}
 use Rattle.heap_redo.specs.Redone.{Seen, absent, bad_block, seen_page}
 use Rattle.seq_scan.specs.BlockRows.{BlockRows, with_values, with_tuple, rows_from, block_rows}
@@ -47,7 +46,7 @@ valued :
 unfolding values_of
 valued columns test line tuple v more true here row =
     ap (λ (n : ℕ). with_values n (row_of tuple columns) (values_of columns more)) (sym here)
-    ∙ ap (λ (r : Result (List Cell) RowFault). with_values v.line r (values_of columns more)) row
+    ∙ ap (λ (r : Result (List Cell) RowRefusal). with_values v.line r (values_of columns more)) row
 valued columns test line tuple v more false here row = refl
 
 -- what is known of the versions of a table that its blocks show, in one block from a line on

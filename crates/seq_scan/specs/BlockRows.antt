@@ -3,11 +3,9 @@
 use Rattle.std.specs.Prelude.{ℕ, ◌+◌, Bool, true, false, List, [], ◌∷◌, Result, Ok, Err}
 use Rattle.pg_types.specs.declared.status.Unknown.{Unknown}
 use Rattle.heap_page.specs.Item.{Item, unused, normal, redirect, dead}
-use Rattle.heap_tuple.specs.Values.{row_of}
+use Rattle.heap_tuple.specs.Values.{RowRefusal, ToastedIn, BadIn, row_of}
 use Rattle.heap_tuple.specs.declared.cell.Cell.{Cell}
 use Rattle.heap_tuple.specs.declared.cell.Column.{Column}
-use Rattle.heap_tuple.specs.declared.values.RowFault.{RowFault}
-use Rattle.heap_tuple.specs.declared.values.RowFault.TheVariants.{Toasted, Bad, Memory}
 use Rattle.heap_redo.specs.Redone.{Seen, absent, bad_block, seen_page}
 
 -- how a block's rows end: with its last line; before a line whose row is stored elsewhere or compressed, or is not as
@@ -33,11 +31,10 @@ abbrev pub with_row : List Cell → BlockRows → BlockRows
 with_row row rest = record { rows = row ∷ rest.rows; end = rest.end }
 
 -- the row of a line that is seen, before the others; a row that is refused ends them
-abbrev pub with_values : ℕ → Result (List Cell) RowFault → BlockRows → BlockRows
+abbrev pub with_values : ℕ → Result (List Cell) RowRefusal → BlockRows → BlockRows
 with_values line (Ok row) rest = with_row row rest
-with_values line (Err (Toasted column)) rest = ends (ToastedAt line column)
-with_values line (Err (Bad column)) rest = ends (BadAt line column)
-with_values line (Err Memory) rest = rest
+with_values line (Err (ToastedIn column)) rest = ends (ToastedAt line column)
+with_values line (Err (BadIn column)) rest = ends (BadAt line column)
 
 -- a tuple before the others, where the snapshot sees it
 abbrev pub with_tuple : List Column → ℕ → List ℕ → Result Bool Unknown → BlockRows → BlockRows

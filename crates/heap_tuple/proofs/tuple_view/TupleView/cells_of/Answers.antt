@@ -1,4 +1,4 @@
-use Rattle.std.proofs.Common.{inr, sym, ◌∙◌, arith}
+use Rattle.std.proofs.Common.{sym, ◌∙◌, arith}
 use Rattle.heap_tuple.proofs.RowLoop.{column_done, column_fault, after_all}
 use Rattle.heap_tuple.proofs.tuple_view.TupleView.cells_of.Goals as goal
 
@@ -13,4 +13,4 @@ loop-i-preserved c = (
 )
 
 pub returns : goal.returns
-returns c = inr (sym (after_all _ _ _ _ c.loop-i.row (omega arith)) ∙ c.loop-i.invariant.1)
+returns c = sym c.loop-i.invariant.1 ∙ after_all _ _ _ _ c.loop-i.row (omega arith)
