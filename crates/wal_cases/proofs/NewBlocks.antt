@@ -1,5 +1,5 @@
 -- What is known of blocks and a record that were tested: that they can be written.
-use Rattle.std.proofs.Common.{◌≡◌, ℕ, ◌+◌, ◌<◌, ◌≤◌, Bool, true, false, ◌==◌, nat_le, List, [], ◌∷◌, ◌++◌, length, Option, Some, None, IfSome, IsTrue, if◌then◌else◌, subst, sym, arith}
+use Rattle.std.proofs.Common.{◌≡◌, ℕ, ◌+◌, ◌<◌, ◌≤◌, Bool, true, false, ◌==◌, nat_le, List, ◌∷◌, length, Option, Some, None, IfSome, IsTrue, if◌then◌else◌, subst, sym, arith}
 use Rattle.pg_types.specs.declared.names.Locator.{Locator}
 use Rattle.wal_record.specs.declared.new.NewBlock.{NewBlock}
 use Rattle.wal_record.specs.declared.new.NewRecord.{NewRecord}
