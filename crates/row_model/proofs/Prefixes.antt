@@ -1,5 +1,5 @@
 -- A legal log without its last record is legal.
-use Rattle.std.proofs.Common.{◌≡◌, ℕ, Bool, true, ◌||◌, ◌==◌, nat_lt, List, ◌∷◌, All, Result, Ok, Err, refl, inl, inr}
+use Rattle.std.proofs.Common.{◌≡◌, ℕ, Bool, true, ◌||◌, ◌==◌, nat_lt, List, ◌∷◌, Result, Ok, Err, refl, inl, inr}
 use Rattle.std.specs.List.{list_any}
 use Rattle.std.proofs.lemmas.Bool.{and_parts, or_cases, or_left, or_right}
 use Rattle.std.proofs.lemmas.List.Elements.{All-tail}
@@ -12,7 +12,7 @@ use Rattle.xact_redo.specs.TransactionsOf.{kind_of, transactions_of}
 use Rattle.row_model.specs.Origins.{LogOrigin}
 use Rattle.row_model.specs.Locks.{since}
 use Rattle.row_model.specs.RowSteps.{view_after, view_with_record}
-use Rattle.row_model.specs.LegalRows.{LegalLog, LegalTable, are_apart, has_redo, is_redo, is_redo_own, renews, renews_first}
+use Rattle.row_model.specs.LegalRows.{LegalTable, are_apart, has_redo, is_redo, is_redo_own, renews, renews_first}
 use Rattle.row_model.specs.Prefixes.{PrefixIsLegal}
 
 -- a redo position of the older log is one of the whole
