@@ -40,4 +40,8 @@ returns-in-Ok-clause-words g c = λ two.
 
 pub returns-in-Ok-clause-other_words : goal.returns-in-Ok-clause-other_words
 returns-in-Ok-clause-other_words g c = λ none.
-    two_or c.finish.result c.in-Ok.reply (one_reply c.in-Ok.reply none) c.finish.ensures.statuses (λ r. (c.finish.ensures.replied r).0)
+    two_or c.finish.result (reply_meaning c.in-Ok.reply) (c.in-Ok.ensures.at_once none) c.finish.ensures.statuses
+    (λ replied. (c.finish.ensures.replied replied).0)
+
+pub returns-in-Err-Failed-clause-other_words : goal.returns-in-Err-Failed-clause-other_words
+returns-in-Err-Failed-clause-other_words g c = λ none. absurd (c.in-Err-Failed.ensures.at_once none)
