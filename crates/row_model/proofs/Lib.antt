@@ -1,3 +1,4 @@
 pub mod Places
+mod Prefixes
 mod WorkedIds
 mod WorkedLog

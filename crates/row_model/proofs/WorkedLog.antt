@@ -28,7 +28,8 @@ use Rattle.row_model.specs.Locks.{is_gone, locks, since, up_to_running}
 use Rattle.row_model.specs.RowSteps.{births, births_written, block_count, count_with, deleter_of_mark, own_steps, steps_in, update_steps, version_put, version_written, versions, view_after, view_with_record, whole_steps}
 use Rattle.row_model.specs.Rows.{IsInPlaceOrder, is_row}
 use Rattle.row_model.specs.LegalSteps.{BirthStep, DeleterStep, EachStep, KeepsTo, MultixactStep, RemovalStep, Takes, Unmarked}
-use Rattle.row_model.specs.LegalRows.{AnewRule, AreBytes, BlockFits, BlocksRule, CheckpointRule, ImageRule, KindFits, LegalAlong, LegalTable, LockRule, OnlineLocks, RecordFits, TableRule, TupleFits, are_apart, is_redo, is_redo_own, renews_first}
+use Rattle.record_numbers.specs.Fits.{AreBytes, BlockFits, KindFits, RecordFits, TupleFits}
+use Rattle.row_model.specs.LegalRows.{AnewRule, BlocksRule, CheckpointRule, ImageRule, LegalAlong, LegalTable, LockRule, OnlineLocks, TableRule, are_apart, is_redo, is_redo_own, renews_first}
 use Rattle.row_model.proofs.WorkedIds.{first_live, second_live, worked_legal}
 use Rattle.row_model.specs.WorkedRows.{AreRowsAfter, IsWorkedRows, first_row, first_tuple, first_values, second_row, second_tuple, backup_end, commit_of_700, commit_of_701, insert_by_700, nothing_runs, online_checkpoint, update_by_701, worked_start, worked_block, worked_first, worked_log, worked_origin, worked_table}
 

@@ -2,16 +2,15 @@
 -- transactions, and of each described table's rows, blocks and locks.
 -- Sources: heapam.c, heapam_visibility.c (SetHintBits), xloginsert.c (XLogRegisterBuffer, XLogRecordAssemble), xlog.c
 -- (CreateCheckPoint), standby.c (LogStandbySnapshot), storage.c (RelationTruncate), multixact.c.
-use Rattle.std.specs.Prelude.{◌≡◌, ◌≢◌, ◌⊎◌, ℕ, ◌<◌, ◌^◌, Bool, true, false, ◌==◌, not, ◌&&◌, ◌||◌, nat_lt, List, [], ◌∷◌, All, Option, Some, None, Ok, if◌then◌else◌}
+use Rattle.std.specs.Prelude.{◌≡◌, ◌≢◌, ◌⊎◌, ℕ, ◌<◌, Bool, true, false, ◌==◌, not, ◌&&◌, ◌||◌, nat_lt, List, [], ◌∷◌, All, Option, Some, None, Ok, if◌then◌else◌}
 use Rattle.std.specs.List.{list_all, list_any}
 use Rattle.pg_types.specs.declared.names.Locator.{Locator}
 use Rattle.wal_record.specs.declared.new.NewImage.{NewImage}
 use Rattle.wal_record.specs.declared.types.RecordHead.{RecordHead}
-use Rattle.wal_bodies.specs.declared.types.NewTuple.{NewTuple}
 use Rattle.wal_bodies.specs.declared.types.RecBlock.{RecBlock}
 use Rattle.wal_bodies.specs.declared.types.Rec.{Rec}
 use Rattle.wal_bodies.specs.declared.types.RecKind.{RecKind}
-use Rattle.wal_bodies.specs.declared.types.RecKind.TheVariants.{Checkpoint, Delete, Update, Lock, LockUpdated}
+use Rattle.wal_bodies.specs.declared.types.RecKind.TheVariants.{Checkpoint}
 use Rattle.wal_bodies.specs.HeapKinds.{same_locator}
 use Rattle.wal_bodies.specs.After.{applied}
 use Rattle.heap_redo.specs.Redone.{View, is_anew, is_left}
@@ -167,35 +166,3 @@ pub record LegalLog (o : LogOrigin) (known : List Locator) (log : List Rec) : Ty
   pub rows : All (LegalTable o log) known
   pub view : View
   pub redone : view_after o known log ≡ Ok view
-
--- The numbers of a record fit the fields that they are read from.
-
-abbrev pub AreBytes : List ℕ → Type 0
-AreBytes bytes = All (λ (byte : ℕ). byte < 256) bytes
-
-pub record TupleFits (tuple : NewTuple) : Type 0 where
-  pub mask2 : tuple.mask2 < 2 ^ 16
-  pub mask : tuple.mask < 2 ^ 16
-  pub hoff : tuple.hoff < 2 ^ 8
-  pub rest : AreBytes tuple.rest
-
-abbrev pub ImageFits : Option NewImage → Type 0
-ImageFits None = Unit {0}
-ImageFits (Some image) = AreBytes image.bytes
-
-pub record BlockFits (block : RecBlock) : Type 0 where
-  pub number : block.block < 2 ^ 32
-  pub image : ImageFits block.image
-  pub tuples : All TupleFits block.tuples
-
-abbrev pub KindFits : RecKind → Type 0
-KindFits (Delete xmax line bits flags) = (xmax < 2 ^ 32) × (bits < 2 ^ 8)
-KindFits (Update old_xmax old_line old_bits flags new_xmax new_line) = (old_xmax < 2 ^ 32) × ((old_bits < 2 ^ 8) × (new_xmax < 2 ^ 32))
-KindFits (Lock xmax line bits flags) = (xmax < 2 ^ 32) × (bits < 2 ^ 8)
-KindFits (LockUpdated xmax line bits flags) = (xmax < 2 ^ 32) × (bits < 2 ^ 8)
-KindFits _ = Unit {0}
-
-pub record RecordFits (rec : Rec) : Type 0 where
-  pub xid : rec.head.xid.0 < 2 ^ 32
-  pub kind : KindFits rec.kind
-  pub blocks : All BlockFits rec.blocks

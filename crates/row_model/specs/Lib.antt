@@ -3,6 +3,7 @@ pub mod LegalSteps
 pub mod Locks
 pub mod Multixacts
 pub mod Origins
+pub mod Prefixes
 pub mod RowSteps
 pub mod Rows
 pub mod Shown

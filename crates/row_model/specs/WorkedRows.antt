@@ -15,7 +15,8 @@ use Rattle.row_model.specs.Origins.{BeginsEmpty, LogOrigin, committed_in, empty_
 use Rattle.row_model.specs.Multixacts.{multixacts}
 use Rattle.row_model.specs.RowSteps.{versions}
 use Rattle.row_model.specs.Rows.{IsRows}
-use Rattle.row_model.specs.LegalRows.{LegalLog, RecordFits}
+use Rattle.record_numbers.specs.Fits.{RecordFits}
+use Rattle.row_model.specs.LegalRows.{LegalLog}
 
 -- nothing has committed or aborted, and each id is a top transaction
 abbrev pub worked_ids : Origin

@@ -12,7 +12,8 @@ use Rattle.xact_redo.specs.TransactionsOf.{transactions_of}
 use Rattle.row_model.specs.Versions.{RowStep, Version, with_steps, version_at}
 use Rattle.row_model.specs.Origins.{BeginsEmpty, LogOrigin, TableOrigin}
 use Rattle.row_model.specs.RowSteps.{block_count, blocks_of, count_with, steps_of, versions, view_after, view_before, view_with_record}
-use Rattle.row_model.specs.LegalRows.{LegalAlong, RecordFits, TableRule, are_apart}
+use Rattle.record_numbers.specs.Fits.{RecordFits}
+use Rattle.row_model.specs.LegalRows.{LegalAlong, TableRule, are_apart}
 use Rattle.row_redo.specs.Shown.{BlocksShowVersions, Rises, last_end}
 use Rattle.row_redo.proofs.Apart.{all_lost_later, all_sound_later, steps_apart, steps_lost, steps_sound}
 use Rattle.row_redo.proofs.Rules.{StepsRule, rules_of}

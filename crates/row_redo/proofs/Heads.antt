@@ -13,7 +13,7 @@ use Rattle.heap_tuple.specs.Tuple.{IsTuple, is_tuple, is_tuple_head, xmin_of, xm
 use Rattle.wal_bodies.specs.Fields.{has}
 use Rattle.wal_bodies.specs.Heads.{Head, head_of, head_bytes, marked_mask, marked, pointing_to, hot, pointing_after_delete, deleted, replaced, locked}
 use Rattle.wal_bodies.specs.After.{user_data}
-use Rattle.row_model.specs.LegalRows.{AreBytes}
+use Rattle.record_numbers.specs.Fits.{AreBytes}
 use Rattle.row_redo.proofs.Bits.{mark-columns, mark2-small, with-columns, without-columns}
 
 -- bytes

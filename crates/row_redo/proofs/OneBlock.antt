@@ -15,7 +15,8 @@ use Rattle.row_model.specs.Origins.{LogOrigin}
 use Rattle.row_model.specs.Versions.{Version, RowStep, version_at, with_steps}
 use Rattle.row_model.specs.RowSteps.{items_in, own_steps, whole_steps, block_steps}
 use Rattle.row_model.specs.Shows.{ShowsPlace, ShowsBlock}
-use Rattle.row_model.specs.LegalRows.{RecordFits, BlockFits, ImageFits, ImageRule, AnewRule}
+use Rattle.record_numbers.specs.Fits.{RecordFits, BlockFits, ImageFits}
+use Rattle.row_model.specs.LegalRows.{ImageRule, AnewRule}
 use Rattle.row_redo.proofs.Rules.{StepsRule}
 use Rattle.row_model.specs.Shown.{HasNone}
 use Rattle.row_redo.proofs.Fitting.{TuplesFit}

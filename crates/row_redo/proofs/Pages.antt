@@ -14,7 +14,7 @@ use Rattle.wal_record.specs.declared.new.NewImage.{NewImage}
 use Rattle.wal_bodies.specs.After.{page_of_image}
 use Rattle.heap_redo.specs.Redone.{seen, seen_page, bad_block}
 use Rattle.row_model.specs.RowSteps.{items_in}
-use Rattle.row_model.specs.LegalRows.{AreBytes}
+use Rattle.record_numbers.specs.Fits.{AreBytes}
 use Rattle.row_redo.proofs.Fitting.{TuplesFit}
 
 -- the tuple of an item is bytes

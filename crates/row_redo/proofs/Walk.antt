@@ -15,7 +15,8 @@ use Rattle.heap_redo.specs.Redone.{Seen, absent, bad_block, seen_page, View, Out
 use Rattle.row_model.specs.Origins.{LogOrigin}
 use Rattle.row_model.specs.Versions.{Version, RowStep, version_at, with_steps}
 use Rattle.row_model.specs.RowSteps.{block_steps, steps_in, count_with}
-use Rattle.row_model.specs.LegalRows.{RecordFits, BlockFits, ImageRule, AnewRule, BlocksRule, same_block, are_apart}
+use Rattle.record_numbers.specs.Fits.{RecordFits, BlockFits}
+use Rattle.row_model.specs.LegalRows.{ImageRule, AnewRule, BlocksRule, same_block, are_apart}
 use Rattle.row_redo.proofs.Rules.{StepsRule}
 use Rattle.row_redo.proofs.Places.{SameIn, same_joined, steps_away, steps_joined, rules_split, none_same}
 use Rattle.row_redo.proofs.Own.{block_in}

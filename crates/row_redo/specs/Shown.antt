@@ -5,7 +5,8 @@ use Rattle.wal_bodies.specs.declared.types.Rec.{Rec}
 use Rattle.heap_redo.specs.Redone.{View, table_of}
 use Rattle.row_model.specs.Origins.{BeginsEmpty, LogOrigin}
 use Rattle.row_model.specs.RowSteps.{block_count, versions, view_after}
-use Rattle.row_model.specs.LegalRows.{LegalLog, RecordFits}
+use Rattle.record_numbers.specs.Fits.{RecordFits}
+use Rattle.row_model.specs.LegalRows.{LegalLog}
 use Rattle.row_model.specs.Shown.{ShowsTable}
 
 -- where the last record ends, 0 before the first

@@ -7,7 +7,6 @@ use Rattle.known_assigned.specs.Known.{after_end, after_observe, after_running, 
 use Rattle.standby_snapshot.specs.Snapshot.{in_progress, take_of}
 use Rattle.tuple_visibility.specs.Visible.{deleter_of, inserter_counts, visible_of}
 use Rattle.xact_redo.specs.State.{before_records, state_after}
-use Rattle.xact_redo.specs.TransactionsOf.{transactions_of}
 use Rattle.row_model.specs.Shows.{Shows}
 use Rattle.row_model.specs.WorkedRows.{IsWorkedRows, second_row, worked_log, worked_origin}
 use Rattle.row_visibility.specs.Sees.{state_along}

@@ -4,3 +4,4 @@ pub mod Decoded
 pub mod Views
 pub mod Spelling
 pub mod New
+pub mod OfBytes

@@ -13,7 +13,7 @@ mod view;
 
 pub use encoding::encode;
 pub use head::decode_head;
-pub use laws::{encoded_is_read, read_is_spelled, spelled_is_read};
+pub use laws::{encoded_is_read, read_is_of_bytes, read_is_spelled, spelled_is_read};
 pub use new::{NewBlock, NewBlocks, NewImage, NewRecord};
 pub use types::{BlockView, ImageView, PrevRule, RecordFault, RecordHead};
 pub use view::{RecordView, decode, lend};
