@@ -30,7 +30,7 @@ pub returns-in-Ok-clause-rows : goal.returns-in-Ok-clause-rows
 returns-in-Ok-clause-rows g c = λ replied.
     legal_replies c.legal_scan.ensures (map string_bytes c.args.words.now) (g.A.Archive.files c.args.archive.now)
     (λ reply. (c.finish.result ≡ status_of reply) × Appends (g.O.Sink.written c.args.out.now) (g.O.Sink.written c.finish.new.out) (text_of reply))
-    (reply_meaning c.in-Ok.reply) c.in-Ok.ensures.told (c.finish.ensures.replied replied)
+    (reply_meaning c.in-Ok.reply) (g.met.A.Archive.bytes c.args.archive.now) c.in-Ok.ensures.told (c.finish.ensures.replied replied)
 
 pub returns-in-Ok-clause-words : goal.returns-in-Ok-clause-words
 returns-in-Ok-clause-words g c = λ two.
