@@ -48,7 +48,7 @@ fn table_of(words: &[String]) -> Option<&str>
 }
 
 /// Replays the log, and opens a scan of the table with this name.
-#[tactic(auto, using(crate::proofs::Replaying::answers_log))]
+#[tactic(auto, using(crate::proofs::Replaying::answers_log, crate::proofs::Replaying::understood))]
 fn answer_scan<A: Archive>(alloc: Global, name: &str, archive: &mut A) -> Result<Reply, Fail>
     ensures told { IfOk result (λ reply. IfSome (A.files archive.old) (λ files.
         AnswersLog name.now files (reply_meaning reply))) }
@@ -66,11 +66,9 @@ fn answer_scan<A: Archive>(alloc: Global, name: &str, archive: &mut A) -> Result
 }
 
 /// The answer where replay left this.
-#[tactic(auto, using(crate::proofs::Replaying::understood))]
 fn answer_replay(alloc: Global, name: &str, replayed: Replay) -> Result<Reply, NoMemory>
     requires { HasTables replayed }
-    ensures answers { IfOk result (λ reply. AnswersReplay name.now replayed (reply_meaning reply)) }
-    ensures understood { IfOk result (λ reply. reply_meaning reply ≢ BadWords) }
+    ensures { IfOk result (λ reply. AnswersReplay name.now replayed (reply_meaning reply)) }
 {
     match replayed {
         Replay::Refused { at, what } => Ok(Reply::LogRefused { at, what }),
