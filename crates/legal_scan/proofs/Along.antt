@@ -17,7 +17,7 @@ use Rattle.standby_model.specs.Laws.{Rises}
 use Rattle.standby_model.specs.Log.{end_of}
 use Rattle.scan_model.specs.Run.{applied, origin, redone_at, redone_on, replayed, start}
 use Rattle.scan_model.specs.Tables.{known}
-use Rattle.scan_model.proofs.Runs.{goes_on, led_before, redone_is, set_up, started}
+use Rattle.scan_model.proofs.Runs.{goes_on, led_before, redone_is}
 use Rattle.legal_scan.specs.Answer.{has_backup_ended, origin_with}
 
 -- a log that rises from a position does
@@ -25,6 +25,9 @@ pub rises_too : (from : ℕ) (log : List Rec) → Rises from log → RowsRise lo
 rises_too from [] rises = tt
 rises_too from (rec ∷ []) (onward, rises) = (omega (arith, onward), tt)
 rises_too from (rec ∷ older ∷ log) (onward, rises) = (onward, rises_too from (older ∷ log) rises)
+
+started : (node : Standby) → replayed [] ≡ Ok node → node ≡ start
+started node e = cc
 
 -- what is known of transactions is what the log tells
 pub transactions_along : (log : List Rec) (node : Standby) → replayed log ≡ Ok node → node.transactions ≡ state_along log
@@ -84,7 +87,7 @@ viewed_before rec (Err fault) view e = cc
 one_view : (a b : View) → ◌≡◌ {A = Result View RedoFault} (Ok a) (Ok b) → a ≡ b
 one_view a b e = cc
 
-done_with : View → View × Result (Unit {0}) RedoFault
+abbrev done_with : View → View × Result (Unit {0}) RedoFault
 done_with view = (view, Ok tt)
 
 left_is :

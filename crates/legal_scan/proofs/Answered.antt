@@ -1,5 +1,5 @@
 -- The program's answer over a legal log.
-use Rattle.std.proofs.Common.{◌≡◌, ℕ, zero, suc, ◌+◌, ◌<◌, ◌≤◌, ◌⊎◌, inl, inr, Bool, true, false, not, ◌&&◌, nat_lt, nat_le, List, [], ◌∷◌, Option, Some, None, Result, Ok, Err, arith, lit<, refl, sym, ap, subst, ◌∙◌}
+use Rattle.std.proofs.Common.{◌≡◌, ℕ, zero, suc, ◌+◌, ◌<◌, ◌≤◌, ◌⊎◌, inl, inr, Bool, true, false, not, ◌&&◌, nat_lt, nat_le, List, [], ◌∷◌, All, Option, Some, None, Result, Ok, Err, arith, lit<, refl, sym, ap, subst, ◌∙◌}
 use Rattle.std.specs.Prelude.{is_some, if◌then◌else◌, nat_eq}
 use Rattle.std.specs.Cmp.Lexicographic.{pointwise}
 use Rattle.std.proofs.lemmas.Bool.{and_parts, le-leb, le-ltb, lt-ltb}
@@ -17,6 +17,8 @@ use Rattle.row_model.specs.Versions.{Version}
 use Rattle.row_model.specs.RowSteps.{block_count, versions}
 use Rattle.row_model.specs.Origins.{BeginsEmpty, LogOrigin}
 use Rattle.row_model.specs.LegalRows.{LegalLog}
+use Rattle.record_numbers.specs.Fits.{RecordFits}
+use Rattle.record_numbers.specs.Laws.{ToldNumbersFit}
 use Rattle.row_model.specs.Shown.{ShowsSeen, ShowsTable}
 use Rattle.row_redo.specs.Shown.{BlocksShowVersions}
 use Rattle.row_visibility.specs.Sees.{SeesRows, StateAlong, state_along}
@@ -32,7 +34,8 @@ use Rattle.scan_model.specs.Tables.{described, known, number_of, table_t, table_
 use Rattle.scan_model.specs.Scan.{Reply, LogRefused, NotAdmitted, Scanned, AnswersBlocks as AnswersRefused, AnswersNext, AnswersOpening, AnswersRows as AnswersBlocks, AnswersTable as AnswersNumber, is_admitted, is_ready, is_there, is_whole, page_of, pages_from}
 use Rattle.scan_model.proofs.Replies.{one_count}
 use Rattle.scan_model.proofs.Runs.{set_up}
-use Rattle.legal_scan.specs.Answer.{AllFit, AnswersAdmitted, AnswersRows, AnswersTable, IsLegal, LegalAnswer, LegalScan, admits, has_backup_ended, origin_with, page_with}
+use Rattle.legal_scan.specs.Answer.{AnswersAdmitted, AnswersRows, AnswersTable, IsLegal, LegalAnswer, LegalScan, admits, has_backup_ended, origin_with, page_with}
+use Rattle.legal_scan.proofs.Fitting.{all_fit, files_tell_bytes}
 use Rattle.legal_scan.proofs.Along.{awaited_along, awaited_with, awaits, blocks_are, past_redo, replayed_where, rises_too, transactions_along}
 
 -- the table that a name names is t or u
@@ -117,10 +120,10 @@ begins_empty = record { tables = λ table. refl; none_committed = λ x. refl; no
 -- a scan that is admitted
 scanned :
     BlocksShowVersions → SeesRows → ScanGivesRows → (top : ℕ → ℕ) (log : List Rec) (node : Standby) (table : ℕ) (reply : Reply)
-    → (table ≡ 0) ⊎ (table ≡ 1) → LegalLog (origin_with top) known log × AllFit log → Rises origin.redo.0 log → replayed log ≡ Ok node
+    → (table ≡ 0) ⊎ (table ≡ 1) → LegalLog (origin_with top) known log → All RecordFits log → Rises origin.redo.0 log → replayed log ≡ Ok node
     → (state_along log).known.mode ≡ Ready → AnswersBlocks node table reply
     → AnswersRows top log table (end_of origin.redo.0 log) reply
-scanned shown seen gives top log node table reply is legal rises leads ready answer =
+scanned shown seen gives top log node table reply is rules fit rises leads ready answer =
     let o = origin_with top in
     let end = end_of origin.redo.0 log in
     let file = (table_with table).file in
@@ -128,7 +131,6 @@ scanned shown seen gives top log node table reply is legal rises leads ready ans
     let count = block_count o file log in
     let columns = (table_with table).columns in
     let sees_in = sees (state_along log) in
-    let (rules, fit) = legal in
     let shows : ShowsTable o log vs count (node.blocks table) =
     subst (λ (view : View). ShowsTable o log vs count (view table)) (blocks_are top log rules.view node rules.redone leads)
     (shown o known log rules.view table file (file_of table is) begins_empty rules (rises_too origin.redo.0 log rises) fit rules.redone) in
@@ -153,27 +155,27 @@ scanned shown seen gives top log node table reply is legal rises leads ready ans
 
 by_admission :
     BlocksShowVersions → SeesRows → ScanGivesRows → (top : ℕ → ℕ) (log : List Rec) (node : Standby) (table : ℕ) (reply : Reply)
-    → (table ≡ 0) ⊎ (table ≡ 1) → LegalLog (origin_with top) known log × AllFit log → Rises origin.redo.0 log → replayed log ≡ Ok node
+    → (table ≡ 0) ⊎ (table ≡ 1) → LegalLog (origin_with top) known log → All RecordFits log → Rises origin.redo.0 log → replayed log ≡ Ok node
     → (state_along log).known.mode ≡ state_of (transactions_of log)
     → (admitted : Bool) → admits log ≡ admitted → AnswersOpening node table admitted reply
     → AnswersAdmitted admitted top log table (end_of origin.redo.0 log) reply
-by_admission shown seen gives top log node table reply is legal rises leads mode true e answer =
-    scanned shown seen gives top log node table reply is legal rises leads
+by_admission shown seen gives top log node table reply is rules fit rises leads mode true e answer =
+    scanned shown seen gives top log node table reply is rules fit rises leads
     (ready_when (state_along log).known.mode (ap is_ready mode ∙ (and_parts _ _ e).1)) answer
-by_admission shown seen gives top log node table reply is legal rises leads mode false e answer =
+by_admission shown seen gives top log node table reply is rules fit rises leads mode false e answer =
     refused top log node table reply leads mode answer
 
 -- where the log ends, by the table
 by_table :
     BlocksShowVersions → StateAlong → SeesRows → ScanGivesRows → (top : ℕ → ℕ) (log : List Rec) (node : Standby) (name : List ℕ)
-    (number : Option ℕ) (reply : Reply) → number_of name ≡ number → LegalLog (origin_with top) known log × AllFit log → Rises origin.redo.0 log
+    (number : Option ℕ) (reply : Reply) → number_of name ≡ number → LegalLog (origin_with top) known log → All RecordFits log → Rises origin.redo.0 log
     → replayed log ≡ Ok node → AnswersNumber node number reply → AnswersTable top log number reply
-by_table shown along seen gives top log node name None reply e legal rises leads answer = answer
-by_table shown along seen gives top log node name (Some table) reply e legal rises leads answer =
-    let mode = along (origin_with top).transactions log legal.0.transactions in
+by_table shown along seen gives top log node name None reply e rules fit rises leads answer = answer
+by_table shown along seen gives top log node name (Some table) reply e rules fit rises leads answer =
+    let mode = along (origin_with top).transactions log rules.transactions in
     let admitted = admitted_is log node rises leads mode in
     by_admission shown seen gives top log node table reply
-    (number_from (pointwise nat_eq name table_t.name) (pointwise nat_eq name table_u.name) table e) legal rises leads mode
+    (number_from (pointwise nat_eq name table_t.name) (pointwise nat_eq name table_u.name) table e) rules fit rises leads mode
     (admits log) refl (subst (λ (b : Bool). AnswersOpening node table b reply) admitted answer)
 
 -- over a legal log no record is refused at its blocks
@@ -184,8 +186,8 @@ not_refused rec log node next reply leads on answer =
     let here : redone_at rec node ≡ Ok next = sym (ap (λ (r : Result Standby RedoFault). redone_on rec r) leads) ∙ on in
     subst (λ (r : Result Standby RedoFault). AnswersRefused node r reply) here answer
 
-pub legal_scan_holds : LogRises → BlocksShowVersions → StateAlong → SeesRows → ScanGivesRows → LegalScan
-legal_scan_holds all_rise shown along seen gives top files name reply is answer =
+pub legal_scan_holds : LogRises → ToldNumbersFit → BlocksShowVersions → StateAlong → SeesRows → ScanGivesRows → LegalScan
+legal_scan_holds all_rise fits shown along seen gives top files name reply have is answer =
     by (next_of (told_by files) described origin.redo.0 answer.log) refl answer.says
   where
     by :
@@ -193,7 +195,7 @@ legal_scan_holds all_rise shown along seen gives top files name reply is answer 
         → AnswersNext name answer.node found reply → LegalAnswer top files name reply
     by (Ok rec) e says =
         let legal = is (rec ∷ answer.log) (e, answer.stands) in
-        let (next, on, same) = replayed_where top (rec ∷ answer.log) legal.0.view legal.0.redone in
+        let (next, on, same) = replayed_where top (rec ∷ answer.log) legal.view legal.redone in
         absurd (not_refused rec answer.log answer.node next reply answer.is_replayed on says)
     by (Err (Refused what)) e says = record {
       log = answer.log;
@@ -207,5 +209,6 @@ legal_scan_holds all_rise shown along seen gives top files name reply is answer 
       is_log = record { stands = answer.stands; stops = e };
       says = by_table shown along seen gives top answer.log answer.node name (number_of name) reply refl
           (is answer.log answer.stands)
+          (all_fit fits (told_by files) described origin.redo.0 answer.log (files_tell_bytes files have) answer.stands)
           (all_rise (told_by files) described origin.redo.0 answer.log (lit< tt) answer.stands) answer.is_replayed says;
     }

@@ -3,8 +3,9 @@
 -- backup has ended and the running transactions are known, and then the rows are those that were committed at the log's
 -- end, in order of place.
 -- Sources: xlogrecovery.c (CheckRecoveryConsistency), procarray.c (ProcArrayApplyRecoveryInfo), heapam.c (heapgettup).
-use Rattle.std.specs.Prelude.{◌≡◌, ℕ, Bool, true, false, not, ◌&&◌, List, All, filter, Option, Some, None}
+use Rattle.std.specs.Prelude.{◌≡◌, ℕ, Bool, true, false, not, ◌&&◌, List, filter, Option, Some, None}
 use Rattle.std.specs.List.{list_any}
+use Rattle.outside.specs.Archive.{HaveBytes}
 use Rattle.wal_bodies.specs.declared.types.Rec.{Rec}
 use Rattle.seq_scan.specs.BlockRows.{BlockRows}
 use Rattle.transaction_model.specs.Transactions.{state_of}
@@ -14,7 +15,7 @@ use Rattle.row_model.specs.RowSteps.{block_count, versions}
 use Rattle.row_model.specs.Rows.{IsRows}
 use Rattle.row_model.specs.Origins.{LogOrigin, committed_in, empty_table}
 use Rattle.row_model.specs.Multixacts.{multixacts}
-use Rattle.row_model.specs.LegalRows.{LegalLog, RecordFits}
+use Rattle.row_model.specs.LegalRows.{LegalLog}
 use Rattle.row_pages.specs.Pages.{is_in_block, values_of}
 use Rattle.standby_core.specs.Replay.{ends_backup, refusal_of}
 use Rattle.standby_model.specs.Archived.{told_by}
@@ -31,14 +32,10 @@ origin_with top = record {
   tables = λ table. empty_table;
 }
 
--- the numbers of a log's records fit the fields that they are read from
-abbrev pub AllFit : List Rec → Type 0
-AllFit log = All RecordFits log
-
 -- a primary could write each front of the log that the files tell
 abbrev pub IsLegal : (ℕ → ℕ) → (List ℕ → Option (List ℕ)) → Type 0
 IsLegal top files =
-    (log : List Rec) → Stands (told_by files) described origin.redo.0 log → LegalLog (origin_with top) known log × AllFit log
+    (log : List Rec) → Stands (told_by files) described origin.redo.0 log → LegalLog (origin_with top) known log
 
 -- the base backup, which began at the redo position, has ended
 abbrev pub has_backup_ended : List Rec → Bool
@@ -84,11 +81,11 @@ pub record LegalAnswer (top : ℕ → ℕ) (files : List ℕ → Option (List �
   pub is_log : IsLog (told_by files) described origin.redo.0 log stop
   pub says : AnswersStop top name log stop reply
 
--- what is answered over a legal log is that
+-- what is answered over a legal log is that; what files contain are bytes
 abbrev pub LegalScan : Type 0
 LegalScan =
     (top : ℕ → ℕ) (files : List ℕ → Option (List ℕ)) (name : List ℕ) (reply : Reply)
-    → IsLegal top files → AnswersLog name files reply → LegalAnswer top files name reply
+    → HaveBytes (Some files) → IsLegal top files → AnswersLog name files reply → LegalAnswer top files name reply
 
 -- where the files tell a legal log, the answer to words that are `scan` and a table is that
 abbrev pub WhereLegal : List (List ℕ) → (List ℕ → Option (List ℕ)) → (Reply → Type 0) → Type 0

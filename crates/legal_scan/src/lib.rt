@@ -10,6 +10,7 @@ pub fn legal_scan()
     ensures { LegalScan }
 {
     standby_model::log_rises();
+    record_numbers::told_numbers_fit();
     row_redo::blocks_show_versions();
     row_visibility::state_along();
     row_visibility::sees_rows();

@@ -6,7 +6,7 @@ use Rattle.pg_types.specs.declared.fail.Fail.{Fail}
 use Rattle.pg_types.specs.declared.fail.Fail.TheVariants.{Failed, Memory}
 use Rattle.outside.specs.Sink.{Appends, AppendsNothing, AppendsPrefix, Writes}
 use Rattle.scan_model.specs.Scan.{line}
-use Rattle.standby_cli.specs.Outcome.{AppendsLines, IsFront, IsLines, WritesSome}
+use Rattle.standby_cli.specs.Outcome.{AppendsLines, IsFront, IsLines, WritesSome, WroteSome}
 
 -- one text after another
 pub appends_both :
@@ -80,10 +80,16 @@ writes_after before between now x y (Err Memory) lines p q = appends_lines befor
 
 -- what a call that did not succeed wrote of a text, it wrote of a longer one
 pub wrote_of_longer :
-    {T : Type 0} (before now : Option (List ℕ)) (x y : List ℕ) (fail : Fail) → (let r : Result T Fail = Err fail in WritesSome before now x r)
-    → (let r : Result T Fail = Err fail in WritesSome before now (x ++ y) r)
+    (before now : Option (List ℕ)) (x y : List ℕ) (fail : Fail) → WroteSome before now x fail → WroteSome before now (x ++ y) fail
 wrote_of_longer before now x y Failed p = prefix_of_longer before now x y p
 wrote_of_longer before now x y Memory p = lines_of_longer before now x y p
+
+-- and after a text that was written whole
+pub wrote_after :
+    (before between now : Option (List ℕ)) (x y : List ℕ) (fail : Fail) → IsLines x → Appends before between x
+    → WroteSome between now y fail → WroteSome before now (x ++ y) fail
+wrote_after before between now x y Failed lines p q = appends_prefix before between now x y p q
+wrote_after before between now x y Memory lines p q = appends_lines before between now x y lines p q
 
 -- nothing was written
 pub nothing_appended : (now : Option (List ℕ)) → Appends now now []

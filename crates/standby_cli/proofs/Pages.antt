@@ -5,8 +5,8 @@ use Rattle.pg_types.specs.declared.fail.Fail.{Fail}
 use Rattle.outside.specs.Sink.{Appends}
 use Rattle.seq_scan.specs.BlockRows.{BlockEnd, BlockRows, Whole, ToastedAt, BadAt, UnknownAt, NoPage}
 use Rattle.scan_model.specs.Scan.{Reply, BadWords, LogRefused, NoTable, NotAdmitted, Scanned, column_name, end_line, is_whole, line, page_text, place_text, row_line, pages_from, pages_text, status_after, status_at, status_of}
-use Rattle.standby_cli.specs.Outcome.{AppendsLines, IsLines, IsReplied, WritesSome}
-use Rattle.standby_cli.proofs.Appending.{appends_both, appends_lines, lines_both, no_lines, writes_after, wrote_of_longer}
+use Rattle.standby_cli.specs.Outcome.{AppendsLines, IsLines, IsReplied, WroteSome}
+use Rattle.standby_cli.proofs.Appending.{appends_both, appends_lines, lines_both, no_lines, wrote_after, wrote_of_longer}
 
 -- the pages from this block on
 abbrev pub left_from : (ℕ → BlockRows) → ℕ → ℕ → List BlockRows
@@ -153,20 +153,19 @@ wrote_all before now page table blocks block le w =
 
 -- a call that did not succeed wrote some of a block's text
 pub wrote_some :
-    {T : Type 0} (before between now : Option (List ℕ)) (page : ℕ → BlockRows) (table blocks block : ℕ) (fail : Fail) → block < blocks
+    (before between now : Option (List ℕ)) (page : ℕ → BlockRows) (table blocks block : ℕ) (fail : Fail) → block < blocks
     → Written before between page table blocks block
-    → (let r : Result T Fail = Err fail in WritesSome between now (page_text table block (nat_lt (block + 1) blocks) (page block)) r)
-    → (let r : Result T Fail = Err fail in WritesSome before now (pages_text table blocks 0 (pages_from page 0 blocks)) r)
-wrote_some {T = T} before between now page table blocks block fail less w p =
+    → WroteSome between now (page_text table block (nat_lt (block + 1) blocks) (page block)) fail
+    → WroteSome before now (pages_text table blocks 0 (pages_from page 0 blocks)) fail
+wrote_some before between now page table blocks block fail less w p =
     let here = page_text table block (nat_lt (block + 1) blocks) (page block) in
     let rest = if is_whole (page block).end then pages_from page (block + 1) (blocks - (block + 1)) else [] in
     let e : left_from page blocks block ≡ page block ∷ rest = one_more page blocks block (blocks - (block + 1)) (omega arith) in
     let more = pages_text table blocks (block + 1) rest in
-    let longer = wrote_of_longer {T = T} between now here more fail p in
+    let longer = wrote_of_longer between now here more fail p in
     let same = sym (text_here page table blocks block rest e) in
-    let r : Result T Fail = Err fail in
-    subst (λ (t : List ℕ). WritesSome before now t r) (ap (λ (t : List ℕ). w.text ++ t) same ∙ w.whole)
-    (writes_after before between now w.text (here ++ more) r w.lines w.appends longer)
+    subst (λ (t : List ℕ). WroteSome before now t fail) (ap (λ (t : List ℕ). w.text ++ t) same ∙ w.whole)
+    (wrote_after before between now w.text (here ++ more) fail w.lines w.appends longer)
 
 -- nothing more was written
 pub wrote_front :

@@ -35,11 +35,15 @@ IsFront front text = (rest : List ℕ) × (text ≡ front ++ rest)
 abbrev pub AppendsLines : Option (List ℕ) → Option (List ℕ) → List ℕ → Type 0
 AppendsLines before now text = (front : List ℕ) × IsLines front × IsFront front text × Appends before now front
 
--- what a call wrote of a text: all of it, or where the sink failed a prefix, or for want of memory whole lines
+-- what a call that did not succeed wrote of a text: a prefix where the sink failed, whole lines for want of memory
+abbrev pub WroteSome : Option (List ℕ) → Option (List ℕ) → List ℕ → Fail → Type 0
+WroteSome before now text Failed = AppendsPrefix before now text
+WroteSome before now text Memory = AppendsLines before now text
+
+-- what a call wrote of a text: all of it, where it succeeded
 abbrev pub WritesSome : {T : Type 0} → Option (List ℕ) → Option (List ℕ) → List ℕ → Result T Fail → Type 0
 WritesSome before now text (Ok x) = Appends before now text
-WritesSome before now text (Err Failed) = AppendsPrefix before now text
-WritesSome before now text (Err Memory) = AppendsLines before now text
+WritesSome before now text (Err fault) = WroteSome before now text fault
 
 -- a text was written whole, or where the sink was in trouble a prefix of it
 abbrev pub AppendsUnless : Type 0 → Option (List ℕ) → Option (List ℕ) → List ℕ → Type 0

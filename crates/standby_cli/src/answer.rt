@@ -1,4 +1,4 @@
-ghost use Rattle.std.specs.Prelude.{◌≡◌, ◌≢◌, Ok, Err, None, IfOk, IfErr, IfSome, map, option_map, string_bytes};
+ghost use Rattle.std.specs.Prelude.{◌≡◌, ◌≢◌, Err, None, IfOk, IsOkAnd, IfErr, IfSome, map, option_map, string_bytes};
 ghost use Rattle.outside.specs.Faults.{Rose};
 ghost use Rattle.wal_archive.specs.ArchiveLog.{archived_bytes};
 ghost use Rattle.standby_model.specs.Archived.{segment_size};
@@ -18,11 +18,12 @@ use std::alloc::Global;
 ///
 /// # Errors
 /// `Failed` only where the archive's faults rose, `Memory` for want of memory.
+#[tactic(auto, using(crate::proofs::Words::never_bad))]
 pub fn answer<A: Archive>(alloc: Global, words: &[String], archive: &mut A) -> Result<Reply, Fail>
     ensures told { IfOk result (λ reply. IfSome (A.files archive.old) (λ files.
         Answers (map string_bytes words.now) files (reply_meaning reply))) }
     ensures bad_words { IfOk result (λ reply. reply_meaning reply ≡ BadWords → table_of (map string_bytes words.now) ≡ None) }
-    ensures at_once { table_of (map string_bytes words.now) ≡ None → result ≡ Ok Reply.BadWords }
+    ensures at_once { table_of (map string_bytes words.now) ≡ None → IsOkAnd result (λ reply. reply_meaning reply ≡ BadWords) }
     ensures failed { result ≡ Err Fail.Failed → Rose (A.fault_count archive.old) (A.fault_count archive.new) }
     ensures uncounted { result ≢ Err Fail.Failed → A.fault_count archive.new ≡ A.fault_count archive.old }
 {
@@ -47,6 +48,7 @@ fn table_of(words: &[String]) -> Option<&str>
 }
 
 /// Replays the log, and opens a scan of the table with this name.
+#[tactic(auto, using(crate::proofs::Replaying::answers_log, crate::proofs::Replaying::understood))]
 fn answer_scan<A: Archive>(alloc: Global, name: &str, archive: &mut A) -> Result<Reply, Fail>
     ensures told { IfOk result (λ reply. IfSome (A.files archive.old) (λ files.
         AnswersLog name.now files (reply_meaning reply))) }
@@ -66,8 +68,7 @@ fn answer_scan<A: Archive>(alloc: Global, name: &str, archive: &mut A) -> Result
 /// The answer where replay left this.
 fn answer_replay(alloc: Global, name: &str, replayed: Replay) -> Result<Reply, NoMemory>
     requires { HasTables replayed }
-    ensures answers { IfOk result (λ reply. AnswersReplay name.now replayed (reply_meaning reply)) }
-    ensures understood { IfOk result (λ reply. reply_meaning reply ≢ BadWords) }
+    ensures { IfOk result (λ reply. AnswersReplay name.now replayed (reply_meaning reply)) }
 {
     match replayed {
         Replay::Refused { at, what } => Ok(Reply::LogRefused { at, what }),

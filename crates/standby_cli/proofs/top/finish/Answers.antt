@@ -12,7 +12,7 @@ pub returns-in-Err-Memory-clause-memory_line : goal.returns-in-Err-Memory-clause
 returns-in-Err-Memory-clause-memory_line g c = λ twelve.
     let faults = g.O.Sink.fault_count in
     let shorts = g.O.Sink.short_count in
-    let told = c.in-Err-Memory.ensures.told in
+    let told = rw c.in-Err-Memory.field-0-is at c.in-Err-Memory.ensures.told in
     cut_off (Rose (faults c.write_reply.new.out) (faults c.write_fault.new.out) ⊎ Rose (shorts c.write_reply.new.out) (shorts c.write_fault.new.out))
     (Rose (faults c.args.out.now) (faults c.write_fault.new.out) ⊎ Rose (shorts c.args.out.now) (shorts c.write_fault.new.out))
     (g.O.Sink.written c.args.out.now) (g.O.Sink.written c.write_reply.new.out) (g.O.Sink.written c.write_fault.new.out)

@@ -30,7 +30,7 @@ pub returns-in-Ok-clause-rows : goal.returns-in-Ok-clause-rows
 returns-in-Ok-clause-rows g c = λ replied.
     legal_replies c.legal_scan.ensures (map string_bytes c.args.words.now) (g.A.Archive.files c.args.archive.now)
     (λ reply. (c.finish.result ≡ status_of reply) × Appends (g.O.Sink.written c.args.out.now) (g.O.Sink.written c.finish.new.out) (text_of reply))
-    (reply_meaning c.in-Ok.reply) c.in-Ok.ensures.told (c.finish.ensures.replied replied)
+    (reply_meaning c.in-Ok.reply) (g.met.A.Archive.bytes c.args.archive.now) c.in-Ok.ensures.told (c.finish.ensures.replied replied)
 
 pub returns-in-Ok-clause-words : goal.returns-in-Ok-clause-words
 returns-in-Ok-clause-words g c = λ two.
@@ -40,4 +40,8 @@ returns-in-Ok-clause-words g c = λ two.
 
 pub returns-in-Ok-clause-other_words : goal.returns-in-Ok-clause-other_words
 returns-in-Ok-clause-other_words g c = λ none.
-    two_or c.finish.result c.in-Ok.reply (one_reply c.in-Ok.reply none) c.finish.ensures.statuses (λ r. (c.finish.ensures.replied r).0)
+    two_or c.finish.result (reply_meaning c.in-Ok.reply) (c.in-Ok.ensures.at_once none) c.finish.ensures.statuses
+    (λ replied. (c.finish.ensures.replied replied).0)
+
+pub returns-in-Err-Failed-clause-other_words : goal.returns-in-Err-Failed-clause-other_words
+returns-in-Err-Failed-clause-other_words g c = λ none. absurd (c.in-Err-Failed.ensures.at_once none)

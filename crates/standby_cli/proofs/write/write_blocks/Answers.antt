@@ -3,7 +3,7 @@ use Rattle.commit_log.specs.Log.{status_of}
 use Rattle.page_store.specs.Content.{Blocks, content}
 use Rattle.outside.specs.Sink.{Appends}
 use Rattle.pg_types.specs.declared.fail.Fail.{Fail}
-use Rattle.standby_cli.specs.Outcome.{WritesSome}
+use Rattle.standby_cli.specs.Outcome.{WroteSome}
 use Rattle.seq_scan.specs.BlockRows.{BlockRows}
 use Rattle.standby_snapshot.specs.Snapshot.{in_numbers}
 use Rattle.scan_model.specs.Scan.{is_whole, page_text, status_at}
@@ -35,10 +35,9 @@ returns-in-Err-write_page-clause-told g c =
     let page = page_in c.args.columns.now (in_numbers c.args.snapshot.now) (status_of c.args.state.now.log) (content c.args.pool.now) c.args.table in
     let b = c.loop-block.block in
     let is = c.in-Ok.ensures.rows ∙ ap (λ (blocks : Blocks). page_in c.args.columns.now (in_numbers c.args.snapshot.now) (status_of c.args.state.now.log) blocks c.args.table b) c.loop-block.invariant.content_is in
-    let r : Result ℕ Fail = Err c.in-Err-write_page.fail in
-    wrote_some {T = ℕ} (g.O.Sink.written c.args.out.now) (g.O.Sink.written c.loop-block.out) (g.O.Sink.written c.write_page.new.out) page
+    wrote_some (g.O.Sink.written c.args.out.now) (g.O.Sink.written c.loop-block.out) (g.O.Sink.written c.write_page.new.out) page
     c.args.table c.args.blocks b c.in-Err-write_page.fail c.loop-block-test.true c.loop-block.invariant.written
-    (subst (λ (p : BlockRows). WritesSome (g.O.Sink.written c.loop-block.out) (g.O.Sink.written c.write_page.new.out) (page_text c.args.table b (nat_lt (b + 1) c.args.blocks) p) r) is c.in-Err-write_page.ensures.told)
+    (subst (λ (p : BlockRows). WroteSome (g.O.Sink.written c.loop-block.out) (g.O.Sink.written c.write_page.new.out) (page_text c.args.table b (nat_lt (b + 1) c.args.blocks) p) c.in-Err-write_page.fail) is c.in-Err-write_page.ensures.told)
 
 pub returns-then-not-is_whole-clause-told : goal.returns-then-not-is_whole-clause-told
 returns-then-not-is_whole-clause-told g c =

@@ -14,7 +14,7 @@ pub returns-in-Err-clause-told : goal.returns-in-Err-clause-told
 unfolding text_of
 returns-in-Err-clause-told g c =
     let scan = c.args.scan in
-    wrote_of_longer {T = ℕ} (g.O.Sink.written c.args.out.now) (g.O.Sink.written c.write_text.new.out) (line (codes "scan 1 at " ++ lsn_text scan.at.0))
+    wrote_of_longer (g.O.Sink.written c.args.out.now) (g.O.Sink.written c.write_text.new.out) (line (codes "scan 1 at " ++ lsn_text scan.at.0))
     (scan_text scan.table scan.blocks (pages_from (page_in (table_with scan.table).columns (in_numbers scan.snapshot) (transaction_status scan.state.log) (content scan.pool) scan.table) 0 scan.blocks))
     c.in-Err.fail
     (c.in-Err.ensures.told (line (codes "scan 1 at " ++ lsn_text scan.at.0)) c.head_text.ensures)
