@@ -1,0 +1,2 @@
+pub mod BrokenLogs
+pub mod Clauses

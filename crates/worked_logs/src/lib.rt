@@ -1,0 +1,19 @@
+//! Logs that are worked by hand: what breaks each clause of the legal log, and what keeps them all.
+#![tactic(auto)]
+
+ghost use Rattle.worked_logs.specs.Clauses.{LegalKeeps, KeepingIsLegal, FrontsAreLegal};
+
+/// A legal log of one table keeps each clause.
+pub fn legal_keeps()
+    ensures { LegalKeeps }
+{}
+
+/// A log of one table that keeps each clause is legal.
+pub fn keeping_is_legal()
+    ensures { KeepingIsLegal }
+{}
+
+/// Each front of a legal log is legal.
+pub fn fronts_are_legal()
+    ensures { FrontsAreLegal }
+{}
