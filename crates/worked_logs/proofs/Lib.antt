@@ -1,1 +1,16 @@
+mod Broken
+mod BrokenApart
+mod BrokenBirths
+mod BrokenBlocks
+mod BrokenCheckpoint
+mod BrokenDeleters
+mod BrokenMultixacts
+mod BrokenRedo
+mod BrokenRenews
+mod BrokenShutdowns
+mod BrokenTransactions
+mod CheckpointAgain
 mod Legal
+mod NextId
+mod OneMore
+mod RunningAgain

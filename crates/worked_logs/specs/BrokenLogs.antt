@@ -4,7 +4,6 @@
 use Rattle.std.specs.Prelude.{ℕ, pos, Bool, true, false, ◌≢◌, List, [], ◌∷◌, None}
 use Rattle.wal_bodies.specs.declared.types.RecBlock.{RecBlock}
 use Rattle.wal_bodies.specs.declared.types.Rec.{Rec}
-use Rattle.wal_bodies.specs.declared.types.RecKind.{RecKind}
 use Rattle.wal_bodies.specs.declared.types.RecKind.TheVariants.{Checkpoint, Delete, Ended, Images, Insert, Lock, MultiInsert, Running}
 use Rattle.row_model.specs.WorkedRows.{first_tuple, worked_block, worked_log, worked_origin, worked_record, worked_table}
 use Rattle.worked_logs.specs.Clauses.{Clause, Births, Deleters, Blocks, CheckpointLocks, Multixacts, Renews, Apart, Shutdowns, Transactions, Redone, Keeps}

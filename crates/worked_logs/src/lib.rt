@@ -1,6 +1,7 @@
 //! Logs that are worked by hand: what breaks each clause of the legal log, and what keeps them all.
 #![tactic(auto)]
 
+ghost use Rattle.worked_logs.specs.BrokenLogs.{EachBreaks};
 ghost use Rattle.worked_logs.specs.Clauses.{LegalKeeps, KeepingIsLegal, FrontsAreLegal};
 
 /// A legal log of one table keeps each clause.
@@ -17,3 +18,10 @@ pub fn keeping_is_legal()
 pub fn fronts_are_legal()
     ensures { FrontsAreLegal }
 {}
+
+/// Each clause that the records read today can break is broken by a log that keeps all others.
+pub fn each_breaks()
+    ensures { EachBreaks }
+{
+    row_model::worked_rows();
+}
