@@ -1,3 +1,4 @@
+mod ArchiveLog
 mod Broken
 mod BrokenApart
 mod BrokenBirths

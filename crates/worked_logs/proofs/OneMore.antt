@@ -40,7 +40,7 @@ Adds Transactions older rec = Legal worked_ids (transactions_of older) → Legal
 Adds NewMultixacts older rec = Unit {0}
 Adds Redone older rec = is_ok (view_after worked_origin (worked_table ∷ []) (rec ∷ older)) ≡ true
 
-answered : (r : Result View RedoFault) → is_ok r ≡ true → (view : View) × (r ≡ Ok view)
+pub answered : (r : Result View RedoFault) → is_ok r ≡ true → (view : View) × (r ≡ Ok view)
 answered (Ok view) h = (view, refl)
 answered (Err fault) h = absurd (false≢true h)
 
@@ -49,12 +49,12 @@ not_gone : (table : Locator) (log : List Rec) → is_gone table log ≡ false
 not_gone table [] = refl
 not_gone table (rec ∷ log) = not_gone table log
 
-pub no_locks : (older : List Rec) (rec : Rec) → LockRule worked_origin worked_table older rec
-no_locks older rec =
+pub no_locks : (table : Locator) (older : List Rec) (rec : Rec) → LockRule worked_origin table older rec
+no_locks table older rec =
     record {
       cut = λ blocks e. absurd (cc);
       drop = λ e. absurd (false≢true e);
-      gone = λ e. absurd (false≢true (sym (not_gone worked_table older) ∙ e));
+      gone = λ e. absurd (false≢true (sym (not_gone table older) ∙ e));
     }
 
 pub one_more : (clause : Clause) (older : List Rec) (rec : Rec) → Keeps clause worked_origin worked_table older → Adds clause older rec → Keeps clause worked_origin worked_table (rec ∷ older)
@@ -63,7 +63,7 @@ one_more Deleters older rec keeps adds = (adds, keeps)
 one_more Removals older rec keeps adds = (adds, keeps)
 one_more Cut older rec keeps adds = (tt, keeps)
 one_more Blocks older rec keeps adds = (adds, keeps)
-one_more Locks older rec keeps adds = (no_locks older rec, keeps)
+one_more Locks older rec keeps adds = (no_locks worked_table older rec, keeps)
 one_more CheckpointLocks older rec keeps adds = (adds, keeps)
 one_more Multixacts older rec keeps adds = (adds, keeps)
 one_more Renews older rec keeps adds = adds

@@ -1,2 +1,3 @@
+pub mod ArchiveLog
 pub mod BrokenLogs
 pub mod Clauses

@@ -1,6 +1,7 @@
 //! Logs that are worked by hand: what breaks each clause of the legal log, and what keeps them all.
 #![tactic(auto)]
 
+ghost use Rattle.worked_logs.specs.ArchiveLog.{ArchiveIsLegal};
 ghost use Rattle.worked_logs.specs.BrokenLogs.{EachBreaks};
 ghost use Rattle.worked_logs.specs.Clauses.{LegalKeeps, KeepingIsLegal, FrontsAreLegal};
 
@@ -22,6 +23,13 @@ pub fn fronts_are_legal()
 /// Each clause that the records read today can break is broken by a log that keeps all others.
 pub fn each_breaks()
     ensures { EachBreaks }
+{
+    row_model::worked_rows();
+}
+
+/// The log of the example's archive is legal over an empty origin.
+pub fn archive_is_legal()
+    ensures { ArchiveIsLegal }
 {
     row_model::worked_rows();
 }
