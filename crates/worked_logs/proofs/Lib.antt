@@ -15,3 +15,5 @@ mod Legal
 mod NextId
 mod OneMore
 mod RunningAgain
+mod SecondIds
+mod SecondLog

@@ -11,7 +11,7 @@ use Rattle.known_assigned.specs.declared.state.RunningHead.{RunningHead}
 use Rattle.worked_logs.proofs.OneMore.{among_one}
 
 -- an id that is seen is among those of the log
-at_most : (n m x : ℕ) (b : Bool) → n < m → (b ≡ true → x < m) → ((n == x) || b) ≡ true → x < m
+pub at_most : (n m x : ℕ) (b : Bool) → n < m → (b ≡ true → x < m) → ((n == x) || b) ≡ true → x < m
 at_most n m x b low rest h =
     elim (or_cases (n == x) b h) [
       | inl e ↦ subst (λ (y : ℕ). y < m) (eqb-true n x e) low
@@ -21,7 +21,7 @@ at_most n m x b low rest h =
 below_zero : (x : ℕ) → ((0 == x) || false) ≡ true → x < 702
 below_zero x h = at_most 0 702 x false (omega arith) (λ none. absurd (false≢true none)) h
 
-below_one : (n m x : ℕ) → n < m → is_among x (n ∷ []) ≡ true → x < m
+pub below_one : (n m x : ℕ) → n < m → is_among x (n ∷ []) ≡ true → x < m
 below_one n m x low h = at_most n m x false low (λ none. absurd (false≢true none)) h
 
 -- what the worked log's records see
@@ -54,7 +54,7 @@ seen_in_worked : (x : ℕ) → seen x (transactions_of worked_log) ≡ true → 
 unfolding seen transaction_of
 seen_in_worked x h = low_all x h
 
-not_one : (n x : ℕ) → n < x → is_among x (n ∷ []) ≡ false
+pub not_one : (n x : ℕ) → n < x → is_among x (n ∷ []) ≡ false
 not_one n x low = false_from_ne_true (is_among x (n ∷ [])) (λ h. let e = among_one x n h in omega arith)
 
 not_ended : (x : ℕ) → 702 ≤ x → ended worked_ids.at x (transactions_of worked_log) ≡ false

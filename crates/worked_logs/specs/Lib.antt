@@ -1,3 +1,4 @@
 pub mod ArchiveLog
 pub mod BrokenLogs
 pub mod Clauses
+pub mod SecondLog

@@ -3,6 +3,7 @@
 
 ghost use Rattle.worked_logs.specs.ArchiveLog.{ArchiveIsLegal};
 ghost use Rattle.worked_logs.specs.BrokenLogs.{EachBreaks};
+ghost use Rattle.worked_logs.specs.SecondLog.{IsSecondLog};
 ghost use Rattle.worked_logs.specs.Clauses.{LegalKeeps, KeepingIsLegal, FrontsAreLegal};
 
 /// A legal log of one table keeps each clause.
@@ -30,6 +31,13 @@ pub fn each_breaks()
 /// The log of the example's archive is legal over an empty origin.
 pub fn archive_is_legal()
     ensures { ArchiveIsLegal }
+{
+    row_model::worked_rows();
+}
+
+/// A log with an image after a checkpoint, a delete that aborts, a subtransaction and a second block is legal.
+pub fn second_log()
+    ensures { IsSecondLog }
 {
     row_model::worked_rows();
 }
