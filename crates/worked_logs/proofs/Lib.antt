@@ -1,3 +1,4 @@
+mod EndRules
 mod ArchiveLog
 mod Broken
 mod BrokenApart

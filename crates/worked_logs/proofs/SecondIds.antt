@@ -18,7 +18,7 @@ top_from : (x : ℕ) (b : Bool) → (x == 703) ≡ b → ((x ≡ 703) × ((if b 
 top_from x true e = inl (eqb-true x 703 e, refl)
 top_from x false e = inr refl
 
-top_is : (x : ℕ) → ((x ≡ 703) × (second_top x ≡ 702)) ⊎ (second_top x ≡ x)
+pub top_is : (x : ℕ) → ((x ≡ 703) × (second_top x ≡ 702)) ⊎ (second_top x ≡ x)
 top_is x = top_from x (x == 703) refl
 
 none_at : (x : ℕ) → 3 ≤ x → ((x == 1 || x == 2) || false) ≡ false
@@ -46,7 +46,7 @@ origin_rule =
     }
 
 -- no other id has a top transaction below 702
-below_top : (n x : ℕ) → n < 702 → second_top x ≡ n → x ≡ n
+pub below_top : (n x : ℕ) → n < 702 → second_top x ≡ n → x ≡ n
 below_top n x low e =
     elim (top_is x) [
       | inl own ↦ (let t = own.1 in absurd (omega arith))

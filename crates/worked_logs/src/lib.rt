@@ -3,6 +3,7 @@
 
 ghost use Rattle.worked_logs.specs.ArchiveLog.{ArchiveIsLegal};
 ghost use Rattle.worked_logs.specs.BrokenLogs.{EachBreaks};
+ghost use Rattle.worked_logs.specs.EndRules.{EndRulesBreak};
 ghost use Rattle.worked_logs.specs.SecondLog.{IsSecondLog};
 ghost use Rattle.worked_logs.specs.Clauses.{LegalKeeps, KeepingIsLegal, FrontsAreLegal};
 
@@ -41,3 +42,8 @@ pub fn second_log()
 {
     row_model::worked_rows();
 }
+
+/// Each part of the rules on commits and aborts is broken by one that keeps the other parts.
+pub fn end_rules_break()
+    ensures { EndRulesBreak }
+{}
