@@ -1,3 +1,4 @@
+mod CheckpointRules
 mod EndRules
 mod ArchiveLog
 mod Broken

@@ -21,7 +21,7 @@ top_from x false e = inr refl
 pub top_is : (x : ℕ) → ((x ≡ 703) × (second_top x ≡ 702)) ⊎ (second_top x ≡ x)
 top_is x = top_from x (x == 703) refl
 
-none_at : (x : ℕ) → 3 ≤ x → ((x == 1 || x == 2) || false) ≡ false
+pub none_at : (x : ℕ) → 3 ≤ x → ((x == 1 || x == 2) || false) ≡ false
 none_at x normal =
     or_from (x == 1 || x == 2) false
     (or_from (x == 1) (x == 2) (false_from_ne_true (x == 1) (λ e. let f = eqb-true x 1 e in omega arith))

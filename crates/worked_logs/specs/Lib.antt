@@ -1,3 +1,4 @@
+pub mod CheckpointRules
 pub mod EndRules
 pub mod ArchiveLog
 pub mod BrokenLogs

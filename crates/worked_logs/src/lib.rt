@@ -3,6 +3,7 @@
 
 ghost use Rattle.worked_logs.specs.ArchiveLog.{ArchiveIsLegal};
 ghost use Rattle.worked_logs.specs.BrokenLogs.{EachBreaks};
+ghost use Rattle.worked_logs.specs.CheckpointRules.{CheckpointRulesBreak};
 ghost use Rattle.worked_logs.specs.EndRules.{EndRulesBreak};
 ghost use Rattle.worked_logs.specs.SecondLog.{IsSecondLog};
 ghost use Rattle.worked_logs.specs.Clauses.{LegalKeeps, KeepingIsLegal, FrontsAreLegal};
@@ -46,4 +47,9 @@ pub fn second_log()
 /// Each part of the rules on commits and aborts is broken by one that keeps the other parts.
 pub fn end_rules_break()
     ensures { EndRulesBreak }
+{}
+
+/// Each part of the rules on checkpoints is broken by one that keeps the other parts.
+pub fn checkpoint_rules_break()
+    ensures { CheckpointRulesBreak }
 {}
