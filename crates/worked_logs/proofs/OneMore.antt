@@ -1,0 +1,143 @@
+-- One record more, after a log that keeps each clause.
+use Rattle.std.proofs.Common.{◌≡◌, ◌≢◌, ℕ, true, false, ◌==◌, ◌||◌, List, [], ◌∷◌, Result, Ok, Err, is_ok, None, refl, sym, ◌∙◌, subst, inl, inr}
+use Rattle.std.proofs.lemmas.Bool.{eqb-true, false≢true, or_cases, or_left, or_right}
+use Rattle.std.proofs.lemmas.List.Elements.{All-cons, All-nil}
+use Rattle.pg_types.specs.declared.names.Locator.{Locator}
+use Rattle.known_assigned.specs.Ids.{is_among}
+use Rattle.wal_bodies.specs.declared.types.RecBlock.{RecBlock}
+use Rattle.wal_bodies.specs.declared.types.Rec.{Rec}
+use Rattle.heap_redo.specs.declared.fault.RedoFault.{RedoFault}
+use Rattle.heap_redo.specs.Redone.{View}
+use Rattle.wal_bodies.specs.After.{applied, after}
+use Rattle.wal_bodies.specs.HeapKinds.{same_locator}
+use Rattle.transaction_model.specs.LegalTransactions.{Legal, before}
+use Rattle.xact_redo.specs.TransactionsOf.{kind_of, transactions_of}
+use Rattle.row_model.specs.Versions.{Version}
+use Rattle.row_model.specs.Locks.{is_gone}
+use Rattle.row_model.specs.RowSteps.{versions, view_after}
+use Rattle.row_model.specs.LegalSteps.{BirthStep, DeleterStep, KeepsTo, MultixactStep, RemovalStep, horizon_of}
+use Rattle.row_model.specs.LegalRows.{AnewRule, BlocksRule, CheckpointRule, ImageRule, LockRule, are_apart, is_redo, is_redo_own, renews_first}
+use Rattle.row_model.specs.WorkedRows.{first_tuple, worked_block, worked_ids, worked_origin, worked_table}
+use Rattle.worked_logs.specs.Clauses.{Clause, Births, Deleters, Removals, Cut, Blocks, Locks, CheckpointLocks, Multixacts, Renews, Apart, Shutdowns, Transactions, NewMultixacts, Redone, Keeps}
+use Rattle.worked_logs.specs.BrokenLogs.{BreaksOnly, bare_block}
+
+-- what a record adds to a log that keeps a clause
+abbrev pub Adds : Clause → List Rec → Rec → Type 0
+Adds Births older rec = KeepsTo (BirthStep worked_origin worked_table older) worked_origin worked_table older rec
+Adds Deleters older rec = KeepsTo (DeleterStep worked_origin older) worked_origin worked_table older rec
+Adds Removals older rec = KeepsTo (RemovalStep worked_origin older (horizon_of rec.kind)) worked_origin worked_table older rec
+Adds Cut older rec = Unit {0}
+Adds Blocks older rec =
+    BlocksRule worked_origin worked_table older (versions worked_origin worked_table older)
+    (versions worked_origin worked_table (rec ∷ older)) rec.blocks
+Adds Locks older rec = Unit {0}
+Adds CheckpointLocks older rec = CheckpointRule worked_origin worked_table older (kind_of rec.head rec.kind)
+Adds Multixacts older rec = KeepsTo (MultixactStep older) worked_origin worked_table older rec
+Adds Renews older rec = (redo : ℕ) → is_redo (rec ∷ older) redo ≡ true → renews_first worked_table redo (rec ∷ older) ≡ true
+Adds Apart older rec = are_apart rec.blocks ≡ true
+Adds Shutdowns older rec = is_redo_own rec ≡ true
+Adds Transactions older rec = Legal worked_ids (transactions_of older) → Legal worked_ids (transactions_of (rec ∷ older))
+Adds NewMultixacts older rec = Unit {0}
+Adds Redone older rec = is_ok (view_after worked_origin (worked_table ∷ []) (rec ∷ older)) ≡ true
+
+pub answered : (r : Result View RedoFault) → is_ok r ≡ true → (view : View) × (r ≡ Ok view)
+answered (Ok view) h = (view, refl)
+answered (Err fault) h = absurd (false≢true h)
+
+-- no table was dropped
+not_gone : (table : Locator) (log : List Rec) → is_gone table log ≡ false
+not_gone table [] = refl
+not_gone table (rec ∷ log) = not_gone table log
+
+pub no_locks : (table : Locator) (older : List Rec) (rec : Rec) → LockRule worked_origin table older rec
+no_locks table older rec =
+    record {
+      cut = λ blocks e. absurd (cc);
+      drop = λ e. absurd (false≢true e);
+      gone = λ e. absurd (false≢true (sym (not_gone table older) ∙ e));
+    }
+
+pub one_more : (clause : Clause) (older : List Rec) (rec : Rec) → Keeps clause worked_origin worked_table older → Adds clause older rec → Keeps clause worked_origin worked_table (rec ∷ older)
+one_more Births older rec keeps adds = (adds, keeps)
+one_more Deleters older rec keeps adds = (adds, keeps)
+one_more Removals older rec keeps adds = (adds, keeps)
+one_more Cut older rec keeps adds = (tt, keeps)
+one_more Blocks older rec keeps adds = (adds, keeps)
+one_more Locks older rec keeps adds = (no_locks worked_table older rec, keeps)
+one_more CheckpointLocks older rec keeps adds = (adds, keeps)
+one_more Multixacts older rec keeps adds = (adds, keeps)
+one_more Renews older rec keeps adds = adds
+one_more Apart older rec keeps adds = All-cons (λ (r : Rec). are_apart r.blocks ≡ true) rec older adds keeps
+one_more Shutdowns older rec keeps adds = All-cons (λ (r : Rec). is_redo_own r ≡ true) rec older adds keeps
+one_more Transactions older rec keeps adds = adds keeps
+one_more NewMultixacts older rec keeps adds = (tt, keeps)
+one_more Redone older rec keeps adds = answered (view_after worked_origin (worked_table ∷ []) (rec ∷ older)) adds
+
+abbrev pub WorkedKeeps : List Rec → Type 0
+WorkedKeeps log = (clause : Clause) → Keeps clause worked_origin worked_table log
+
+pub each_keeps : (older : List Rec) (rec : Rec) → WorkedKeeps older → ((clause : Clause) → Adds clause older rec) → WorkedKeeps (rec ∷ older)
+each_keeps older rec keeps adds clause = one_more clause older rec (keeps clause) (adds clause)
+
+pub breaks_only :
+    (broken : Clause) (older : List Rec) (rec : Rec) → WorkedKeeps older
+    → (Keeps broken worked_origin worked_table (rec ∷ older) → ⊥)
+    → ((clause : Clause) → clause ≢ broken → Adds clause older rec) → BreaksOnly broken (rec ∷ older)
+breaks_only broken older rec keeps breaks adds =
+    record { breaks = breaks; keeps = λ other ne. one_more other older rec (keeps other) (adds other ne) }
+
+-- what a record keeps to in one of its blocks
+abbrev pub IsBlockRule : List Rec → List Version → List Version → RecBlock → Type 0
+IsBlockRule older before after block =
+    same_locator worked_table block.locator ≡ true
+    → ImageRule worked_origin older after block.block (applied block.image) × AnewRule before block
+
+pub no_blocks : (older : List Rec) (before after : List Version) → BlocksRule worked_origin worked_table older before after []
+no_blocks older before after = All-nil (IsBlockRule older before after)
+
+-- a block without an image that is not made anew
+pub bare_rule :
+    (older : List Rec) (before after : List Version) (id : ℕ) (blocks : List RecBlock)
+    → BlocksRule worked_origin worked_table older before after blocks
+    → BlocksRule worked_origin worked_table older before after (bare_block id false ∷ blocks)
+bare_rule older before after id blocks rest =
+    All-cons (IsBlockRule older before after) (bare_block id false) blocks (λ e. (tt, λ anew. absurd (false≢true anew))) rest
+
+pub block_rule :
+    (older : List Rec) (before after : List Version)
+    → BlocksRule worked_origin worked_table older before after (worked_block false first_tuple)
+block_rule older before after =
+    All-cons (IsBlockRule older before after)
+    (record { id = 0; locator = worked_table; block = 0; will_init = false; image = None; tuples = first_tuple ∷ [] })
+    [] (λ e. (tt, λ anew. absurd (false≢true anew))) (All-nil (IsBlockRule older before after))
+
+-- from the log's begin on and from each redo position
+pub renews_two :
+    (log : List Rec) (redo : ℕ) → ((redo == 0) || ((0x2000028 == redo) || false)) ≡ true
+    → renews_first worked_table 0 log ≡ true → renews_first worked_table 0x2000028 log ≡ true
+    → renews_first worked_table redo log ≡ true
+renews_two log redo h from_begin from_first =
+    elim (or_cases (redo == 0) ((0x2000028 == redo) || false) h) [
+      | inl begins ↦ subst (λ (n : ℕ). renews_first worked_table n log ≡ true) (sym (eqb-true redo 0 begins)) from_begin
+      | inr later ↦ elim (or_cases (0x2000028 == redo) false later) [
+        | inl at ↦ subst (λ (n : ℕ). renews_first worked_table n log ≡ true) (eqb-true 0x2000028 redo at) from_first
+        | inr none ↦ absurd (false≢true none)
+      ]
+    ]
+
+pub renews_three :
+    (log : List Rec) (redo : ℕ) → ((redo == 0) || ((0x20001F0 == redo) || ((0x2000028 == redo) || false))) ≡ true
+    → renews_first worked_table 0 log ≡ true → renews_first worked_table 0x2000028 log ≡ true
+    → renews_first worked_table 0x20001F0 log ≡ true → renews_first worked_table redo log ≡ true
+renews_three log redo h from_begin from_first from_second =
+    elim (or_cases (redo == 0) ((0x20001F0 == redo) || ((0x2000028 == redo) || false)) h) [
+      | inl begins ↦ renews_two log redo (or_left (redo == 0) ((0x2000028 == redo) || false) begins) from_begin from_first
+      | inr later ↦ elim (or_cases (0x20001F0 == redo) ((0x2000028 == redo) || false) later) [
+        | inl at ↦ subst (λ (n : ℕ). renews_first worked_table n log ≡ true) (eqb-true 0x20001F0 redo at) from_second
+        | inr older ↦ renews_two log redo (or_right (redo == 0) ((0x2000028 == redo) || false) older) from_begin from_first
+      ]
+    ]
+
+-- a list of one id
+pub among_one : (x n : ℕ) → is_among x (n ∷ []) ≡ true → n ≡ x
+among_one x n h = elim (or_cases (n == x) false h) [ inl e ↦ eqb-true n x e | inr e ↦ absurd (false≢true e) ]

@@ -1,0 +1,6 @@
+pub mod CheckpointRules
+pub mod EndRules
+pub mod ArchiveLog
+pub mod BrokenLogs
+pub mod Clauses
+pub mod SecondLog

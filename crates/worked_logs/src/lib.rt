@@ -1,0 +1,55 @@
+//! Logs that are worked by hand: what breaks each clause of the legal log, and what keeps them all.
+#![tactic(auto)]
+
+ghost use Rattle.worked_logs.specs.ArchiveLog.{ArchiveIsLegal};
+ghost use Rattle.worked_logs.specs.BrokenLogs.{EachBreaks};
+ghost use Rattle.worked_logs.specs.CheckpointRules.{CheckpointRulesBreak};
+ghost use Rattle.worked_logs.specs.EndRules.{EndRulesBreak};
+ghost use Rattle.worked_logs.specs.SecondLog.{IsSecondLog};
+ghost use Rattle.worked_logs.specs.Clauses.{LegalKeeps, KeepingIsLegal, FrontsAreLegal};
+
+/// A legal log of one table keeps each clause.
+pub fn legal_keeps()
+    ensures { LegalKeeps }
+{}
+
+/// A log of one table that keeps each clause is legal.
+pub fn keeping_is_legal()
+    ensures { KeepingIsLegal }
+{}
+
+/// Each front of a legal log is legal.
+pub fn fronts_are_legal()
+    ensures { FrontsAreLegal }
+{}
+
+/// Each clause that the records read today can break is broken by a log that keeps all others.
+pub fn each_breaks()
+    ensures { EachBreaks }
+{
+    row_model::worked_rows();
+}
+
+/// The log of the example's archive is legal over an empty origin.
+pub fn archive_is_legal()
+    ensures { ArchiveIsLegal }
+{
+    row_model::worked_rows();
+}
+
+/// A log with an image after a checkpoint, a delete that aborts, a subtransaction and a second block is legal.
+pub fn second_log()
+    ensures { IsSecondLog }
+{
+    row_model::worked_rows();
+}
+
+/// Each part of the rules on commits and aborts is broken by one that keeps the other parts.
+pub fn end_rules_break()
+    ensures { EndRulesBreak }
+{}
+
+/// Each part of the rules on checkpoints is broken by one that keeps the other parts.
+pub fn checkpoint_rules_break()
+    ensures { CheckpointRulesBreak }
+{}
