@@ -10,8 +10,8 @@ use Rattle.heap_tuple.specs.Tuple.{is_lock_only, is_tuple, is_tuple_head, max_of
 use Rattle.heap_page.specs.Item.{with_item}
 use Rattle.heap_page.specs.Put.{put_answer, set_head_answer}
 use Rattle.heap_redo.specs.Redone.{grown, redone, redone_at, redone_block, view_with, with_seen}
-use Rattle.wal_bodies.specs.After.{after, after_change, change_head, changed, changed_page, joined, put, put_listed, put_version, tuple_of, update, update_old, update_within}
-use Rattle.wal_bodies.specs.Heads.{deleted, head_bytes, head_of, locked, marked_mask, marked_mask2, replaced}
+use Rattle.heap_redo.specs.After.{after, after_change, change_head, changed, changed_page, joined, put, put_listed, put_version, tuple_of, update, update_old, update_within}
+use Rattle.heap_redo.specs.TupleHeads.{deleted, head_bytes, head_of, locked, marked_mask, marked_mask2, replaced}
 use Rattle.wal_bodies.specs.HeapKinds.{same_locator}
 use Rattle.transaction_model.specs.Transactions.{Live, ended}
 use Rattle.transaction_model.specs.LegalTransactions.{CommitRule, Legal, before}
@@ -27,7 +27,7 @@ use Rattle.worked_logs.proofs.OneMore.{Adds, IsBlockRule, WorkedKeeps, among_one
 use Rattle.transaction_model.specs.LegalTransactions.{OriginRule}
 use Rattle.std.specs.Prelude.{pos}
 use Rattle.row_model.specs.RowSteps.{view_before}
-use Rattle.wal_bodies.specs.After.{applied}
+use Rattle.heap_redo.specs.After.{applied}
 use Rattle.wal_bodies.specs.declared.types.RecKind.TheVariants.{BackupEnd, Checkpoint, Ended, Insert, Running}
 use Rattle.worked_archive.specs.WorkedArchive.{backup_end, commit_of_700, insert_by_700, inserted_block, known, log, online_checkpoint, rec_with, running_record}
 use Rattle.worked_logs.proofs.Legal.{keeping_is_legal_holds}

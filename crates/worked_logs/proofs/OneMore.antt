@@ -8,7 +8,7 @@ use Rattle.wal_bodies.specs.declared.types.RecBlock.{RecBlock}
 use Rattle.wal_bodies.specs.declared.types.Rec.{Rec}
 use Rattle.heap_redo.specs.declared.fault.RedoFault.{RedoFault}
 use Rattle.heap_redo.specs.Redone.{View}
-use Rattle.wal_bodies.specs.After.{applied, after}
+use Rattle.heap_redo.specs.After.{applied, after}
 use Rattle.wal_bodies.specs.HeapKinds.{same_locator}
 use Rattle.transaction_model.specs.LegalTransactions.{Legal, before}
 use Rattle.xact_redo.specs.TransactionsOf.{kind_of, transactions_of}

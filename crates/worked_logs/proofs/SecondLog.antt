@@ -10,8 +10,8 @@ use Rattle.heap_tuple.specs.Tuple.{is_lock_only, is_tuple, is_tuple_head, max_of
 use Rattle.heap_page.specs.Item.{with_item}
 use Rattle.heap_page.specs.Put.{put_answer, set_head_answer}
 use Rattle.heap_redo.specs.Redone.{grown, redone, redone_at, redone_block, view_with, with_seen}
-use Rattle.wal_bodies.specs.After.{after, after_change, change_head, changed, changed_page, joined, put, put_listed, put_version, tuple_of, update, update_old, update_within}
-use Rattle.wal_bodies.specs.Heads.{deleted, head_bytes, head_of, locked, marked_mask, marked_mask2, replaced}
+use Rattle.heap_redo.specs.After.{after, after_change, change_head, changed, changed_page, joined, put, put_listed, put_version, tuple_of, update, update_old, update_within}
+use Rattle.heap_redo.specs.TupleHeads.{deleted, head_bytes, head_of, locked, marked_mask, marked_mask2, replaced}
 use Rattle.wal_bodies.specs.HeapKinds.{same_locator}
 use Rattle.transaction_model.specs.Transactions.{committed, ended}
 use Rattle.transaction_model.specs.LegalTransactions.{Legal}
@@ -30,7 +30,7 @@ use Rattle.row_model.specs.WorkedRows.{worked_start, insert_by_700, nothing_runs
 use Rattle.worked_logs.specs.SecondLog.{IsSecondLog, abort_of_701, block_one, checkpoint_701, commit_of_702, delete_by_701, deleted_block, deleted_tuple, insert_by_702, insert_by_703, kept_row, page_image, row_of, running_701, second_aborted, second_checkpoint, second_log, second_origin, second_rows}
 use Rattle.std.proofs.lemmas.List.Sorted.{IsPermutation-reverse}
 use Rattle.std.specs.List.Sorted.{IsPermutation}
-use Rattle.wal_bodies.specs.After.{applied}
+use Rattle.heap_redo.specs.After.{applied}
 use Rattle.heap_page.specs.Item.{Item, is_normal, normal, numbered}
 use Rattle.heap_page.specs.Page.{are_apart as rooms_apart, is_header, is_laid, is_page, is_placed, item_of, items_of, lines_of}
 use Rattle.heap_page.specs.Put.{restored}
