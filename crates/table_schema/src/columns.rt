@@ -1,4 +1,4 @@
-ghost use Rattle.std.specs.Prelude.{[]};
+ghost use Rattle.std.specs.Prelude.{◌≡◌, ◌&&◌, [], nat_le};
 ghost use Rattle.toml.specs.Data.{as_table};
 ghost use Rattle.toml.specs.View.{view, items_view, table_view};
 ghost use Rattle.table_schema.specs.Reading.{Says, column_in, column_of, columns_from, columns_in};
@@ -14,6 +14,7 @@ use toml::Value;
 use toml::value::Table;
 
 /// A column and its name, behind those with these names.
+#[tactic(auto, unfolding(crate::specs::Reading::column_in))]
 fn column_in(
     alloc: Global,
     table: u16,
@@ -73,7 +74,15 @@ fn columns_of(alloc: Global, table: u16, values: &[Value]) -> Result<ColumnsRead
     Ok(ColumnsRead::new(names, columns))
 }
 
+/// Whether a table may have so many columns (MaxHeapAttributeNumber, htup_details.h).
+fn is_column_count(count: usize) -> bool
+    ensures { result ≡ (nat_le 1 count && nat_le count 1600) }
+{
+    1 <= count && count <= 1600
+}
+
 /// The columns at the key `column`.
+#[tactic(auto, unfolding(crate::specs::Reading::columns_in))]
 pub fn columns_at(alloc: Global, table: u16, members: &Table) -> Result<ColumnsRead, SchemaFault>
     ensures { Says result (columns_in table (table_view members.now)) }
 {
@@ -83,11 +92,12 @@ pub fn columns_at(alloc: Global, table: u16, members: &Table) -> Result<ColumnsR
             key: Key::Column,
         });
     };
-    if array.is_empty() || 1600 < array.len() {
+    let values = array.as_slice();
+    if !is_column_count(values.len()) {
         return Err(SchemaFault::Field {
             table,
             key: Key::Column,
         });
     }
-    columns_of(alloc, table, array.as_slice())
+    columns_of(alloc, table, values)
 }

@@ -35,6 +35,7 @@ pub fn read_schema(alloc: Global, text: &[u8]) -> Result<Tables, SchemaFault>
 }
 
 /// The tables that a document describes.
+#[tactic(auto, unfolding(crate::specs::Reading::description_in))]
 fn description_in(alloc: Global, members: &Table) -> Result<Tables, SchemaFault>
     ensures { Says result (description_in (table_view members.now)) }
 {
@@ -45,10 +46,14 @@ fn description_in(alloc: Global, members: &Table) -> Result<Tables, SchemaFault>
             key: Key::Table,
         });
     };
-    if 256 < array.len() {
+    let values = array.as_slice();
+    if 256 < values.len() {
         return Err(SchemaFault::Many);
     }
-    let tables = tables_of(alloc, database, array.as_slice())?;
+    let tables = match tables_of(alloc, database, values) {
+        Ok(tables) => tables,
+        Err(fault) => return Err(fault),
+    };
     if has_other(Level::Top, members) {
         return Err(SchemaFault::Field {
             table: 0,
@@ -88,6 +93,7 @@ fn table_of(alloc: Global, before: &[Described], value: &Value) -> Result<Descri
 }
 
 /// The table with this number, behind those before it.
+#[tactic(auto, unfolding(crate::specs::Reading::table_in))]
 fn table_in(
     alloc: Global,
     table: u16,

@@ -68,6 +68,7 @@ fn number_of(number: i64) -> Option<u32>
 }
 
 /// The number at a key.
+#[tactic(auto, unfolding(crate::specs::Reading::number_in))]
 pub fn number_at(table: u16, key: Key, members: &Table, word: &str) -> Result<u32, SchemaFault>
     ensures { result ≡ number_in table key word.now (table_view members.now) }
 {
@@ -88,6 +89,7 @@ fn is_name_byte(byte: u8) -> bool
 }
 
 /// Whether a text is a name: 1 to 63 bytes (NAMEDATALEN is 64), without space or control characters.
+#[tactic(auto, unfolding(crate::specs::Reading::is_name))]
 fn is_name(text: &str) -> bool
     ensures { result ≡ is_name text.now }
 {
@@ -104,6 +106,7 @@ fn is_name(text: &str) -> bool
 }
 
 /// The name at the key `name`.
+#[tactic(auto, unfolding(crate::specs::Reading::name_in))]
 pub fn name_at(alloc: Global, table: u16, members: &Table) -> Result<Name, SchemaFault>
     ensures { Says result (name_in table (table_view members.now)) }
 {
@@ -126,6 +129,7 @@ pub fn name_at(alloc: Global, table: u16, members: &Table) -> Result<Name, Schem
 }
 
 /// The type that a word names (`pg_type.typname`; raw4 and raw8 are this program's own).
+#[tactic(auto, unfolding(crate::specs::Reading::kind_of))]
 fn kind_of(word: &str) -> Option<Kind>
     ensures { result ≡ kind_of word.now }
 {
@@ -155,6 +159,7 @@ fn kind_of(word: &str) -> Option<Kind>
 }
 
 /// The type at the key `type`.
+#[tactic(auto, unfolding(crate::specs::Reading::kind_in))]
 pub fn kind_at(table: u16, members: &Table) -> Result<Kind, SchemaFault>
     ensures { result ≡ kind_in table (table_view members.now) }
 {
@@ -183,6 +188,7 @@ fn int_cell(least: i64, greatest: i64, value: &Value) -> Option<Cell>
     }
 }
 
+#[tactic(auto, unfolding(crate::specs::Reading::cell_from))]
 fn bool_cell(value: &Value) -> Option<Cell>
     ensures { result ≡ cell_from Kind.Bool (view value.now) }
 {
@@ -192,6 +198,7 @@ fn bool_cell(value: &Value) -> Option<Cell>
     }
 }
 
+#[tactic(auto, unfolding(crate::specs::Reading::cell_from))]
 fn text_cell(alloc: Global, value: &Value) -> Result<Option<Cell>, NoMemory>
     ensures { IfOk result (λ cell. cell ≡ cell_from Kind.Text (view value.now)) }
 {
@@ -205,6 +212,7 @@ fn text_cell(alloc: Global, value: &Value) -> Result<Option<Cell>, NoMemory>
 }
 
 /// The cell of a value that older tuples have, where a column of this type may have it.
+#[tactic(auto, unfolding(crate::specs::Reading::cell_from))]
 fn cell_from(alloc: Global, kind: Kind, value: &Value) -> Result<Option<Cell>, NoMemory>
     ensures { IfOk result (λ cell. cell ≡ cell_from kind (view value.now)) }
 {
@@ -223,6 +231,7 @@ fn cell_from(alloc: Global, kind: Kind, value: &Value) -> Result<Option<Cell>, N
 }
 
 /// The value at the key `missing`, which a column need not have.
+#[tactic(auto, unfolding(crate::specs::Reading::missing_in))]
 pub fn missing_at(
     alloc: Global,
     table: u16,
@@ -245,6 +254,7 @@ pub fn missing_at(
 }
 
 /// Whether the level has this key.
+#[tactic(auto, unfolding(crate::specs::Reading::is_key))]
 fn is_key(level: Level, word: &str) -> bool
     ensures { result ≡ is_key level word.now }
 {

@@ -10,8 +10,10 @@ use itoa::Buffer;
 use pg_types::NoMemory;
 
 impl Tables {
-    /// Appends the row of a table as `COPY` prints it (copyto.c): its values with tabs between them, each as
-    /// its column's type prints it, and `\N` for null. After `NoMemory` a part of the row may stand there.
+    /// Appends the row of a table much as `COPY` prints it (copyto.c): its values with tabs between them, each
+    /// as its column's type prints it, and `\N` for null. Of the control characters of a text only tab, newline
+    /// and return are escaped, and a backslash. A value past the last column is left out. After `NoMemory` a
+    /// part of the row may stand there.
     pub fn print_row(&self, table: u16, row: &Row, out: &mut Vec<u8>) -> Result<(), NoMemory>
         requires { table < length self.now.tables }
         ensures { OnOk result (Some out.new.items ≡ option_map (λ t. out.old.items ++ row_text t.columns row.now) (table_at self.now table)) }
@@ -139,7 +141,11 @@ fn hex_digit(digit: u8) -> u8
     requires { digit < 16 }
     ensures { result ≡ digit_glyph false digit }
 {
-    if digit < 10 { b'0' + digit } else { b'a' - 10 + digit }
+    if digit < 10 {
+        b'0' + digit
+    } else {
+        b'a' - 10 + digit
+    }
 }
 
 /// Appends a uuid's bytes as hex digits, in groups of 8, 4, 4, 4 and 12 (uuid_out, uuid.c).

@@ -155,7 +155,8 @@ impl Tables {
 
     /// The files of the tables, in order of their numbers.
     pub fn locators(&self) -> &[Locator]
-        ensures { result.now ≡ map (locator_in self.now.database) self.now.tables }
+        ensures files { result.now ≡ map (locator_in self.now.database) self.now.tables }
+        ensures few { length result.now ≤ 256 }
     {
         self.locators.as_slice()
     }
