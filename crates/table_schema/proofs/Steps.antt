@@ -170,17 +170,13 @@ pub tables_all : (database : ℕ) (before : List DescribedTable) (values : List 
 tables_all database before values i h said = ap (λ r. r >>= (λ tables. Ok (record { database = database; tables = tables }))) (sym said ∙ tables_end before values i h)
 
 -- a document with its database and an array of tables
-pub too_many_tables : (ms : Members) (database : ℕ) (vs : List Value) → number_in 0 Database (codes "database") ms ≡ Ok database → Some (items_view vs) ≡ option_and_then as_array (get_member (codes "table") ms) → 256 < length vs → description_in ms ≡ Err Many
+pub too_many_tables : (ms : Members) (database : ℕ) (vs : List Value) → number_in 0 Database (codes "database") ms ≡ Ok database → Some (items_view vs) ≡ option_and_then as_array (get_member (codes "table") ms) → nat_le (length vs) 256 ≡ false → description_in ms ≡ Err Many
 unfolding description_in
-too_many_tables ms database vs number there h =
-    let many : nat_lt 256 (length vs) ≡ true = grind (arith, nat_tests) in
-    rw (number, ← there, count_of vs, many) refl
+too_many_tables ms database vs number there many = rw (number, ← there, count_of vs, many) refl
 
-pub tables_counted : (ms : Members) (database : ℕ) (vs : List Value) → number_in 0 Database (codes "database") ms ≡ Ok database → Some (items_view vs) ≡ option_and_then as_array (get_member (codes "table") ms) → length vs ≤ 256 → description_in ms ≡ (described_by database (items_view vs) >>= (λ described. if has_other Top ms then Err (Field 0 Other) else Ok described))
+pub tables_counted : (ms : Members) (database : ℕ) (vs : List Value) → number_in 0 Database (codes "database") ms ≡ Ok database → Some (items_view vs) ≡ option_and_then as_array (get_member (codes "table") ms) → nat_le (length vs) 256 ≡ true → description_in ms ≡ (described_by database (items_view vs) >>= (λ described. if has_other Top ms then Err (Field 0 Other) else Ok described))
 unfolding description_in
-tables_counted ms database vs number there h =
-    let few : nat_lt 256 (length vs) ≡ false = grind (arith, nat_tests) in
-    rw (number, ← there, count_of vs, few) refl
+tables_counted ms database vs number there few = rw (number, ← there, count_of vs, few) refl
 
 -- the answer to a text that is a document
 pub answers_document : (text : List ℕ) (ms : Members) (r : Result Description SchemaFault) → length text ≤ 1048576 → IsUtf8 text → parse_document text ≡ Some ms → Says r (description_in ms) → IsAnswer text r

@@ -181,7 +181,7 @@ unfoldable pub description_in : Members → Result Description SchemaFault
 description_in members =
     number_in 0 Database (codes "database") members >>= (λ database.
     array_in 0 Table (codes "table") members >>= (λ items.
-    if nat_lt 256 (count_items items) then Err Many else
+    if not (nat_le (count_items items) 256) then Err Many else
     described_by database items >>= (λ described.
     if has_other Top members then Err (Field 0 Other) else Ok described)))
 

@@ -1,4 +1,4 @@
-ghost use Rattle.std.specs.Prelude.{[], ◌≤◌, ◌<◌, length};
+ghost use Rattle.std.specs.Prelude.{◌≡◌, [], ◌≤◌, ◌<◌, length, nat_le};
 ghost use Rattle.toml.specs.View.{view, items_view, table_view};
 ghost use Rattle.table_schema.specs.Reading.{IsAnswer, Says, described_by, description_in, table_in, table_of};
 
@@ -34,6 +34,13 @@ pub fn read_schema(alloc: Global, text: &[u8]) -> Result<Tables, SchemaFault>
     }
 }
 
+/// Whether a description may have so many tables.
+fn is_table_count(count: usize) -> bool
+    ensures { result ≡ nat_le count 256 }
+{
+    count <= 256
+}
+
 /// The tables that a document describes.
 #[tactic(auto, unfolding(crate::specs::Reading::description_in))]
 fn description_in(alloc: Global, members: &Table) -> Result<Tables, SchemaFault>
@@ -47,7 +54,7 @@ fn description_in(alloc: Global, members: &Table) -> Result<Tables, SchemaFault>
         });
     };
     let values = array.as_slice();
-    if 256 < values.len() {
+    if !is_table_count(values.len()) {
         return Err(SchemaFault::Many);
     }
     let tables = match tables_of(alloc, database, values) {
