@@ -1,11 +1,11 @@
 -- Tuples that go to several lines, and the bytes of a new version.
-use Rattle.std.proofs.Common.{arith, ap, sym, refl, ◌∙◌, ◌++◌, ◌∷◌, [], ◌+◌, ◌-◌, ◌≡◌, ◌≤◌, ◌<◌, inl, inr, min, get_or, ℕ, suc, List, length, take, drop, Ok, Err}
+use Rattle.std.proofs.Common.{arith, ap, sym, refl, ◌∙◌, ◌++◌, ◌∷◌, [], ◌+◌, ◌-◌, ◌≡◌, ◌≤◌, ◌<◌, inl, inr, min, get_or, ℕ, suc, List, length, take, drop, Result, Ok, Err}
 use Rattle.std.proofs.Math.Seq.{drop-cons, take-append-add}
 use Rattle.std.proofs.lemmas.Bool.{cases_lt}
 use Rattle.std.proofs.lemmas.List.{take_min, take_all, length-take, length-drop, get_or_default, take-append-le, take-take, drop_all}
 use Rattle.heap_page.specs.Item.{Item}
 use Rattle.wal_bodies.specs.declared.types.NewTuple.{NewTuple}
-use Rattle.heap_redo.specs.After.{BlockRefusal, put, put_listed, tuple_of, joined}
+use Rattle.heap_redo.specs.After.{BlockRefusal, ◌>>=◌, put, put_listed, tuple_of, joined}
 
 -- the end of a text, from where the first part ends on
 pub take-append_more : {X : Type 0} → (n : ℕ) (xs ys : List X) → length xs ≤ n → take n (xs ++ ys) ≡ xs ++ take (n - length xs) ys
@@ -31,7 +31,26 @@ drop-first xs k x h e =
     let next : suc k ≡ k + 1 = omega arith in
     drop-cons xs k x h ∙ ap (λ y. y ∷ drop (suc k) xs) (sym e) ∙ ap (λ n. x ∷ drop n xs) next
 
+then-same : (r : Result (List Item) BlockRefusal) → r ≡ (r >>= λ next. Ok next)
+then-same (Ok items) = refl
+then-same (Err refusal) = refl
+
 module _ (xid block : ℕ) where
+  -- one line
+  pub listed-empty : (line : ℕ) (tuples : List NewTuple) (items : List Item) → length tuples ≡ 0 → Ok items ≡ put_listed xid block (line ∷ []) tuples items
+  unfolding put_listed
+  listed-empty line [] items h = refl
+  listed-empty line (tuple ∷ tuples) items h = absurd (omega arith)
+
+  listed-single : (line : ℕ) (tuple : NewTuple) (tuples : List NewTuple) (items : List Item) → put line (tuple_of xid 0 block line tuple tuple.rest) items ≡ put_listed xid block (line ∷ []) (tuple ∷ tuples) items
+  unfolding put_listed
+  listed-single line tuple tuples items = then-same (put line (tuple_of xid 0 block line tuple tuple.rest) items)
+
+  pub listed-one : (line : ℕ) (tuple : NewTuple) (tuples : List NewTuple) (items : List Item) → 0 < length tuples → tuple ≡ get_or tuples 0 tuple → put line (tuple_of xid 0 block line tuple tuple.rest) items ≡ put_listed xid block (line ∷ []) tuples items
+  listed-one line tuple tuples items h e =
+      listed-single line tuple (drop 1 tuples) items
+      ∙ ap (λ ts. put_listed xid block (line ∷ []) ts items) (sym (drop-first tuples 0 tuple h e))
+
   listed-cons : (line : ℕ) (lines : List ℕ) (tuple : NewTuple) (tuples : List NewTuple) (items next : List Item) → put line (tuple_of xid 0 block line tuple tuple.rest) items ≡ Ok next → put_listed xid block (line ∷ lines) (tuple ∷ tuples) items ≡ put_listed xid block lines tuples next
   unfolding put_listed
   listed-cons line lines tuple tuples items next done = rw done refl
