@@ -2,7 +2,7 @@
 use Rattle.std.proofs.Common.{arith, ap, sym, refl, ◌∙◌, ◌++◌, ◌∷◌, [], ◌+◌, ◌-◌, ◌≡◌, ◌≤◌, ◌<◌, inl, inr, min, get_or, ℕ, suc, List, length, take, drop, Result, Ok, Err}
 use Rattle.std.proofs.Math.Seq.{drop-cons, take-append-add}
 use Rattle.std.proofs.lemmas.Bool.{cases_lt}
-use Rattle.std.proofs.lemmas.List.{take_min, take_all, length-take, length-drop, get_or_default, take-append-le, take-take, drop_all}
+use Rattle.std.proofs.lemmas.List.{length-append, take_min, take_all, length-take, length-drop, get_or_default, take-append-le, take-take, drop_all}
 use Rattle.heap_page.specs.Item.{Item}
 use Rattle.wal_bodies.specs.declared.types.NewTuple.{NewTuple}
 use Rattle.heap_redo.specs.After.{BlockRefusal, ◌>>=◌, put, put_listed, tuple_of, joined}
@@ -123,3 +123,27 @@ take_rest n xs = take_all (length xs - n) (drop n xs) (omega (arith, length-drop
 -- an element that was read
 pub read-at : {X : Type 0} → (xs : List X) (k : ℕ) (x d : X) → k < length xs → x ≡ get_or xs k x → x ≡ get_or xs k d
 read-at xs k x d h e = e ∙ get_or_default xs k x d h
+
+bound-of : (whole a b c d split own prefix suffix old : ℕ) → whole ≡ a + b + c + d → a ≡ min split own → b ≡ min prefix old → c ≡ own - split → d ≡ old - (old - suffix) → whole ≤ own + (prefix + suffix)
+bound-of whole a b c d split own prefix suffix old e ea eb ec ed = omega arith
+
+-- a new version that is short has its room in a short buffer
+length-joined : (tuple : NewTuple) (old : List ℕ) → length (joined tuple old) ≤ length tuple.rest + (tuple.prefix + tuple.suffix)
+unfolding joined
+length-joined tuple old =
+    let a : List ℕ = take (tuple.hoff - 23) tuple.rest in
+    let b : List ℕ = take tuple.prefix old in
+    let c : List ℕ = drop (tuple.hoff - 23) tuple.rest in
+    let d : List ℕ = drop (length old - tuple.suffix) old in
+    let la : length a ≡ min (tuple.hoff - 23) (length tuple.rest) = length-take (tuple.hoff - 23) tuple.rest in
+    let lb : length b ≡ min tuple.prefix (length old) = length-take tuple.prefix old in
+    let lc : length c ≡ length tuple.rest - (tuple.hoff - 23) = length-drop (tuple.hoff - 23) tuple.rest in
+    let ld : length d ≡ length old - (length old - tuple.suffix) = length-drop (length old - tuple.suffix) old in
+    let whole : length (a ++ b ++ c ++ d) ≡ length a + length b + length c + length d =
+    length-append (a ++ b ++ c) d ∙ ap (λ n. n + length d) (length-append (a ++ b) c ∙ ap (λ n. n + length c) (length-append a b)) in
+    bound-of (length (a ++ b ++ c ++ d)) (length a) (length b) (length c) (length d) (tuple.hoff - 23) (length tuple.rest) tuple.prefix tuple.suffix (length old) whole la lb lc ld
+
+pub short-room : (tuple : NewTuple) (old : List ℕ) (n : ℕ) → n ≡ 512 → length tuple.rest + (tuple.prefix + tuple.suffix) ≤ 512 → take n (joined tuple old) ≡ take 8192 (joined tuple old)
+short-room tuple old n e h =
+    let long = length-joined tuple old in
+    take_all n (joined tuple old) (omega (arith, e, h, long)) ∙ sym (take_all 8192 (joined tuple old) (omega (arith, h, long)))

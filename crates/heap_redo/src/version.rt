@@ -124,22 +124,24 @@ pub fn put_listed(
 }
 
 /// Puts as much of a part as fits behind the first `at` bytes.
-fn append(bytes: &mut [u8; 8192], at: usize, part: &[u8]) -> usize
-    requires { at ≤ 8192 }
-    ensures taken { take result bytes.new ≡ take 8192 (take at bytes.old ++ part.now) }
-    ensures within { result ≤ 8192 }
+fn append(bytes: &mut [u8], at: usize, part: &[u8]) -> usize
+    requires { at ≤ length bytes.old }
+    ensures taken { take result bytes.new ≡ take (length bytes.old) (take at bytes.old ++ part.now) }
+    ensures within { result ≤ length bytes.old }
+    ensures length { length bytes.new ≡ length bytes.old }
 {
-    let len = part.len().min(8192 - at);
+    let len = part.len().min(bytes.len() - at);
     bytes[at..at + len].copy_from_slice(&part[..len]);
     at + len
 }
 
-/// What stands behind the header of a new version of a tuple with these values, as far as a page goes.
+/// What stands behind the header of a new version of a tuple with these values, as far as it fits.
 #[tactic(auto, unfolding(crate::specs::After::joined))]
-pub fn join(bytes: &mut [u8; 8192], tuple: &NewTuple, old: &[u8]) -> usize
+pub fn join(bytes: &mut [u8], tuple: &NewTuple, old: &[u8]) -> usize
     requires { tuple.now.prefix + tuple.now.suffix ≤ length old.now }
-    ensures taken { take result bytes.new ≡ take 8192 (joined tuple.now old.now) }
-    ensures within { result ≤ 8192 }
+    ensures taken { take result bytes.new ≡ take (length bytes.old) (joined tuple.now old.now) }
+    ensures within { result ≤ length bytes.old }
+    ensures length { length bytes.new ≡ length bytes.old }
     ensures small { tuple.now.hoff < 256 }
 {
     let own = tuple.rest.as_slice();

@@ -1,12 +1,12 @@
-use Rattle.std.proofs.Common.{arith, ap, sym, ◌≡◌, ◌∙◌, get_or, take}
+use Rattle.std.proofs.Common.{arith, ap, sym, ◌∙◌, ◌≡◌, get_or, length, replicate, take, ℕ}
 use Rattle.std.proofs.lemmas.Grind.{common_steps}
+use Rattle.std.proofs.lemmas.List.{length-replicate}
+use Rattle.heap_page.specs.Item.{numbered, tuple_in}
 use Rattle.heap_page.specs.Page.{items_of}
-use Rattle.heap_redo.specs.TupleHeads.{Head, replaced}
-use Rattle.heap_redo.specs.After.{tuple_of}
-use Rattle.heap_redo.specs.Heads.{headed}
+use Rattle.heap_redo.specs.After.{user_data, joined}
 use Rattle.heap_redo.specs.Refused.{refusal_of}
-use Rattle.heap_redo.proofs.Marks.{last-in_use, put-refused_after, put-ok_after, never-err}
-use Rattle.heap_redo.proofs.Updates.{within-none, within-refused, within-short, within-put, not-true, not-false, none-length, some-length}
+use Rattle.heap_redo.proofs.Versions.{short-room}
+use Rattle.heap_redo.proofs.Updates.{within-none, within-refused, none-length, some-length}
 use Rattle.heap_redo.proofs.update.update_within.Goals as goal
 
 pub returns-then-is_empty-clause-answer : goal.returns-then-is_empty-clause-answer
@@ -24,63 +24,36 @@ returns-in_err-check_mark-clause-answer c =
     (refusal_of c.in_err-check_mark.field-0.0) c.in_err-check_mark.ensures in
     grind (arith, common_steps, refused)
 
-pub returns-in_default-clause-answer : goal.returns-in_default-clause-answer
-returns-in_default-clause-answer c =
-    let v = c.args.versions in
-    let block = c.args.block.now in
-    let items = items_of c.args.page.now in
-    let tuple = c.index-tuples-0.result in
-    let some = some-length c.as_slice-tuples.result.now block.tuples c.as_slice-tuples.ensures c.if-is_empty.ensures in
-    let here : tuple ≡ get_or block.tuples 0 tuple = c.index-tuples-0.is ∙ ap (λ tuples. get_or tuples 0 tuple) c.as_slice-tuples.ensures in
-    let next = headed items v.old_line (λ (head : Head). replaced v.old_xmax v.old_bits v.is_hot block.block v.new_line head) in
-    within-short c.args.rec.now block v.is_hot v.old_xmax v.old_line v.old_bits v.new_xmax v.new_line items
-    tuple next some here c.in_ok-check_mark.ensures (not-false _ c.in_default.ensures.short)
+pub replace-requires-clause-some : goal.replace-requires-clause-some
+replace-requires-clause-some c =
+    some-length c.as_slice-tuples.result.now c.args.block.now.tuples c.as_slice-tuples.ensures c.if-is_empty.ensures
 
-pub returns-in_err-check_new-clause-answer : goal.returns-in_err-check_new-clause-answer
-returns-in_err-check_new-clause-answer c =
-    let v = c.args.versions in
-    let rec = c.args.rec.now in
-    let block = c.args.block.now in
-    let items = items_of c.args.page.now in
+pub replace-requires-clause-tuple : goal.replace-requires-clause-tuple
+replace-requires-clause-tuple c =
     let tuple = c.index-tuples-0.result in
-    let some = some-length c.as_slice-tuples.result.now block.tuples c.as_slice-tuples.ensures c.if-is_empty.ensures in
-    let here : tuple ≡ get_or block.tuples 0 tuple = c.index-tuples-0.is ∙ ap (λ tuples. get_or tuples 0 tuple) c.as_slice-tuples.ensures in
-    let next = headed items v.old_line (λ (head : Head). replaced v.old_xmax v.old_bits v.is_hot block.block v.new_line head) in
-    let rest = take c.in-Some.len c.joined.new.bytes in
-    let refused = put-refused_after items v.is_hot v.old_xmax v.old_line v.old_bits block.block v.new_line next (last-in_use c.args.page.now) c.in_ok-check_mark.ensures
-    v.new_line (tuple_of rec.head.xid.0 v.new_xmax block.block v.new_line tuple rest) (refusal_of c.in_err-check_new.field-0.0) c.in_err-check_new.ensures
-    ∙ within-put rec block v.is_hot v.old_xmax v.old_line v.old_bits v.new_xmax v.new_line items
-    tuple next rest some here c.in_ok-check_mark.ensures
-    (not-true _ c.in-Some.ensures.short) c.in-Some.ensures.small c.in-Some.ensures.taken in
-    grind (arith, common_steps, refused)
+    c.index-tuples-0.is ∙ ap (λ tuples. get_or tuples 0 tuple) c.as_slice-tuples.ensures
 
-pub returns-in_err-mark_old-clause-answer : goal.returns-in_err-mark_old-clause-answer
-returns-in_err-mark_old-clause-answer c =
-    let v = c.args.versions in
-    let refused = within-refused c.args.rec.now c.args.block.now v.is_hot v.old_xmax v.old_line v.old_bits v.new_xmax v.new_line (items_of c.args.page.now)
-    (refusal_of c.in_err-mark_old.field-0.0) c.in_err-mark_old.ensures.answer in
-    grind (arith, common_steps, refused)
+pub replace-requires-clause-marks : goal.replace-requires-clause-marks
+replace-requires-clause-marks c = c.in_ok-check_mark.ensures
 
-pub returns-clause-answer : goal.returns-clause-answer
-returns-clause-answer c =
-    let v = c.args.versions in
-    let block = c.args.block.now in
+pub replace-requires-clause-room : goal.replace-requires-clause-room
+replace-requires-clause-room c =
+    let size : length {A = ℕ} (replicate 512 0) ≡ 512 = length-replicate {A = ℕ} 512 0 in
+    short-room c.index-tuples-0.result (user_data (tuple_in (numbered (items_of c.args.page.now) c.args.versions.old_line))) _ size (omega (arith, c.joined_bound.ensures))
+
+pub replace-requires-2-clause-some : goal.replace-requires-2-clause-some
+replace-requires-2-clause-some c =
+    some-length c.as_slice-tuples.result.now c.args.block.now.tuples c.as_slice-tuples.ensures c.if-is_empty.ensures
+
+pub replace-requires-2-clause-tuple : goal.replace-requires-2-clause-tuple
+replace-requires-2-clause-tuple c =
     let tuple = c.index-tuples-0.result in
-    let some = some-length c.as_slice-tuples.result.now block.tuples c.as_slice-tuples.ensures c.if-is_empty.ensures in
-    let here : tuple ≡ get_or block.tuples 0 tuple = c.index-tuples-0.is ∙ ap (λ tuples. get_or tuples 0 tuple) c.as_slice-tuples.ensures in
-    c.put_new.ensures.answer
-    ∙ within-put c.args.rec.now block v.is_hot v.old_xmax v.old_line v.old_bits v.new_xmax v.new_line (items_of c.args.page.now)
-    tuple (items_of c.mark_old-2.new.page) (take c.in-Some.len c.joined.new.bytes) some here c.in_ok-mark_old.ensures.answer
-    (not-true _ c.in-Some.ensures.short) c.in-Some.ensures.small c.in-Some.ensures.taken
+    c.index-tuples-0.is ∙ ap (λ tuples. get_or tuples 0 tuple) c.as_slice-tuples.ensures
 
-pub returns-clause-err : goal.returns-clause-err
-returns-clause-err c =
-    let v = c.args.versions in
-    let rec = c.args.rec.now in
-    let block = c.args.block.now in
-    let items = items_of c.args.page.now in
-    let tuple = c.index-tuples-0.result in
-    let rest = take c.in-Some.len c.joined.new.bytes in
-    never-err _ (items_of c.put_new.new.page) c.put_new.result _ c.put_new.ensures.answer
-    (put-ok_after items v.is_hot v.old_xmax v.old_line v.old_bits block.block v.new_line (items_of c.mark_old-2.new.page) (last-in_use c.args.page.now) c.in_ok-mark_old.ensures.answer
-    v.new_line (tuple_of rec.head.xid.0 v.new_xmax block.block v.new_line tuple rest) _ c.in_ok-check_new.ensures)
+pub replace-requires-2-clause-marks : goal.replace-requires-2-clause-marks
+replace-requires-2-clause-marks c = c.in_ok-check_mark.ensures
+
+pub replace-requires-2-clause-room : goal.replace-requires-2-clause-room
+replace-requires-2-clause-room c =
+    let size : length {A = ℕ} (replicate 8192 0) ≡ 8192 = length-replicate {A = ℕ} 8192 0 in
+    ap (λ n. take n (joined c.index-tuples-0.result (user_data (tuple_in (numbered (items_of c.args.page.now) c.args.versions.old_line))))) size
