@@ -1,6 +1,6 @@
-ghost use Rattle.std.specs.Prelude.{◌≡◌, ◌-◌, ◌++◌, [], length, replicate, Some, None, OnOk, OnErr, if◌then◌else◌};
+ghost use Rattle.std.specs.Prelude.{◌≡◌, ◌-◌, ◌++◌, [], length, replicate, Some, None, IsTrue, OnOk, OnErr, if◌then◌else◌};
 ghost use Rattle.heap_page.specs.Item.{normal, with_item, numbered, tuple_in};
-ghost use Rattle.heap_page.specs.Page.{lsn_of, items_of, is_page, IsPage};
+ghost use Rattle.heap_page.specs.Page.{lsn_of, items_of, is_laid, is_page, IsPage};
 ghost use Rattle.heap_page.specs.Put.{put_answer, set_line_answer, set_head_answer, with_head, restored};
 ghost use Rattle.heap_page.specs.Shown.{shown, item_to, IsState, KeepsRule};
 
@@ -36,6 +36,7 @@ impl Model for HeapPage {
 impl HeapPage {
     /// A page without items and of position 0.
     pub fn new() -> HeapPage
+        ensures laid { IsTrue (is_laid result) }
         ensures items { items_of result ≡ [] }
         ensures lsn { lsn_of result ≡ 0 }
     {
@@ -79,6 +80,7 @@ impl HeapPage {
     /// Makes the block a page without items and of position 0 (`PageInit`, bufpage.c).
     pub fn init(&mut self)
         ensures page { IsPage self.new }
+        ensures laid { IsTrue (is_laid self.new) }
         ensures items { items_of self.new ≡ [] }
         ensures lsn { lsn_of self.new ≡ 0 }
     {
