@@ -1,7 +1,7 @@
 -- What a description's text says, or the first test that it fails. The tests go in the order of the text's tables
 -- and columns, and in each of these in the order of the keys; a key that a level does not have comes last of its
 -- level, whether a value repeats is tested right after its key, and the number of tables right after `table`.
-use Rattle.std.specs.Prelude.{ℕ, zero, suc, ◌+◌, ◌≡◌, ◌≢◌, ℤ, pos, negsuc, Bool, true, false, not, ◌&&◌, ◌||◌, ◌==◌, List, [], ◌∷◌, ◌++◌, length, Option, Some, None, Result, Ok, Err, is_some, IsSome, nat_eq, nat_le, nat_lt, int_le, option_map, option_and_then, ok_or, codes, IsUtf8, if◌then◌else◌}
+use Rattle.std.specs.Prelude.{ℕ, ◌+◌, ◌≡◌, ◌≢◌, ℤ, pos, negsuc, Bool, true, false, not, ◌&&◌, ◌||◌, ◌==◌, List, [], ◌∷◌, ◌++◌, length, Option, Some, None, Result, Ok, Err, is_some, nat_eq, nat_le, nat_lt, int_le, option_map, option_and_then, ok_or, codes, IsUtf8, if◌then◌else◌}
 use Rattle.std.specs.List.{list_all}
 use Rattle.std.specs.Cmp.Lexicographic.{pointwise}
 use Rattle.toml.specs.Data.{Data, Items, no_items, item, Members, no_members, member, get_member, as_str, as_integer, as_bool, as_array, as_table}

@@ -1,4 +1,4 @@
-use Rattle.std.proofs.Common.{arith, sym, refl, ◌∙◌}
+use Rattle.std.proofs.Common.{sym, refl, ◌∙◌}
 use Rattle.table_schema.proofs.Steps.{too_many_tables, tables_counted, says_along, says_onward}
 use Rattle.table_schema.proofs.description.description_in.Goals as goal
 
