@@ -1,5 +1,5 @@
 -- What a standby knows along the log that it replays.
-use Rattle.std.proofs.Common.{◌≡◌, ◌<◌, ◌≤◌, ℕ, Bool, true, false, not, ◌||◌, List, [], ◌∷◌, Option, Some, None, Result, Ok, Err, arith, refl, sym, ap, subst, ◌∙◌}
+use Rattle.std.proofs.Common.{◌≡◌, ◌≤◌, ℕ, Bool, true, false, not, ◌||◌, List, [], ◌∷◌, Option, Some, None, Result, Ok, Err, arith, refl, sym, ap, subst, ◌∙◌}
 use Rattle.std.proofs.Math.Path.{fun_ext}
 use Rattle.std.specs.Prelude.{is_some, slice_get, if◌then◌else◌}
 use Rattle.pg_types.specs.declared.names.Locator.{Locator}
@@ -15,7 +15,7 @@ use Rattle.standby_core.specs.Replay.{awaited_after, ends_backup}
 use Rattle.standby_core.specs.Standby.{Standby, at_origin}
 use Rattle.standby_model.specs.Laws.{Rises}
 use Rattle.standby_model.specs.Log.{end_of}
-use Rattle.scan_model.specs.Run.{applied, origin, redone_at, redone_on, replayed, start}
+use Rattle.scan_model.specs.Run.{applied, origin, redone_on, replayed, start}
 use Rattle.scan_model.specs.Tables.{known}
 use Rattle.scan_model.proofs.Runs.{goes_on, led_before, redone_is}
 use Rattle.legal_scan.specs.Answer.{has_backup_ended, origin_with}

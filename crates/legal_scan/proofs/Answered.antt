@@ -34,7 +34,7 @@ use Rattle.scan_model.specs.Tables.{described, known, number_of, table_t, table_
 use Rattle.scan_model.specs.Scan.{Reply, LogRefused, NotAdmitted, Scanned, AnswersBlocks as AnswersRefused, AnswersNext, AnswersOpening, AnswersRows as AnswersBlocks, AnswersTable as AnswersNumber, is_admitted, is_ready, is_there, is_whole, page_of, pages_from}
 use Rattle.scan_model.proofs.Replies.{one_count}
 use Rattle.scan_model.proofs.Runs.{set_up}
-use Rattle.legal_scan.specs.Answer.{AnswersAdmitted, AnswersRows, AnswersTable, IsLegal, LegalAnswer, LegalScan, admits, has_backup_ended, origin_with, page_with}
+use Rattle.legal_scan.specs.Answer.{AnswersAdmitted, AnswersRows, AnswersTable, LegalAnswer, LegalScan, admits, has_backup_ended, origin_with, page_with}
 use Rattle.legal_scan.proofs.Fitting.{all_fit, files_tell_bytes}
 use Rattle.legal_scan.proofs.Along.{awaited_along, awaited_with, awaits, blocks_are, past_redo, replayed_where, rises_too, transactions_along}
 

@@ -1,5 +1,6 @@
 -- The numbers of each record of a log that is told in bytes fit.
 use Rattle.std.proofs.Common.{◌≡◌, ℕ, ◌<◌, List, [], ◌∷◌, All, Option, Some, IfSome, Result, Ok, Err, refl, subst}
+use Rattle.std.proofs.lemmas.List.Elements.{All-cons, All-nil}
 use Rattle.outside.specs.Archive.{HaveBytes}
 use Rattle.wal_archive.specs.ArchiveLog.{archived_byte}
 use Rattle.wal_archive.specs.Bytes.{archived_byte_below}
@@ -30,12 +31,12 @@ record_fits fits told described at prev rec tells (Err why) e t = cc
 pub all_fit :
     ToldNumbersFit → (told : Told) (described : Described) (from : ℕ) (log : List Rec) → TellsBytes told
     → Stands told described from log → All RecordFits log
-all_fit fits told described from [] tells stands = tt
-all_fit fits told described from (rec ∷ older) tells (next, stands) = (
-  record_fits fits told described (end_of from older) (link_after older) rec tells
-      (step told (end_of from older) (link_after older)) refl next,
-  all_fit fits told described from older tells stands,
-)
+all_fit fits told described from [] tells stands = All-nil RecordFits
+all_fit fits told described from (rec ∷ older) tells (next, stands) =
+    All-cons RecordFits rec older
+    (record_fits fits told described (end_of from older) (link_after older) rec tells
+    (step told (end_of from older) (link_after older)) refl next)
+    (all_fit fits told described from older tells stands)
 
 byte_below : (found : Option ℕ) (byte : ℕ) → IfSome found (λ (b : ℕ). b < 256) → found ≡ Some byte → byte < 256
 byte_below found byte low e = subst (λ (o : Option ℕ). IfSome o (λ (b : ℕ). b < 256)) e low

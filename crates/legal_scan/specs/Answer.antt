@@ -56,7 +56,7 @@ pub record AnswersRows (top : ℕ → ℕ) (log : List Rec) (table end : ℕ) (r
       IsRows (multixacts log) (committed_in (origin_with top) log) (versions (origin_with top) (table_with table).file log) rows
   pub says :
       reply ≡ Scanned end table (block_count (origin_with top) (table_with table).file log)
-          (pages_from (page_with table rows) 0 (block_count (origin_with top) (table_with table).file log))
+      (pages_from (page_with table rows) 0 (block_count (origin_with top) (table_with table).file log))
 
 -- or why it is not admitted
 abbrev pub AnswersAdmitted : Bool → (ℕ → ℕ) → List Rec → ℕ → ℕ → Reply → Type 0
