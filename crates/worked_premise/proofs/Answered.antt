@@ -1,10 +1,8 @@
 -- The answer to `scan t`: the row that was committed.
-use Rattle.std.proofs.Common.{◌≡◌, ℕ, Bool, true, false, List, [], ◌∷◌, ◌++◌, Option, Some, None, arith, lit<, refl, sym, ap, subst, ◌∙◌}
-use Rattle.std.proofs.lemmas.Bool.{false≢true}
-use Rattle.std.proofs.lemmas.Fmt.{decimal_digit}
+use Rattle.std.proofs.Common.{◌≡◌, ℕ, Bool, true, false, List, [], ◌∷◌, Option, Some, refl, sym, ap, subst, ◌∙◌}
 use Rattle.std.proofs.lemmas.List.Sorted.{IsPermutation-refl}
-use Rattle.std.specs.Prelude.{codes, filter, pos}
-use Rattle.std.specs.Fmt.{digits, digits_onto, signed_decimal}
+use Rattle.std.specs.Prelude.{codes, filter}
+use Rattle.std.specs.Fmt.{digits}
 use Rattle.std.specs.List.Sorted.{IsPermutation}
 use Rattle.pg_types.specs.Names.{lsn_text}
 use Rattle.pg_types.specs.Numbers.{number_at}
@@ -16,7 +14,7 @@ use Rattle.heap_tuple.specs.declared.tuple_view.MaxOf.TheVariants.{None as NoDel
 use Rattle.heap_redo.specs.After.{tuple_of}
 use Rattle.heap_redo.specs.TupleHeads.{head_bytes}
 use Rattle.transaction_model.specs.Transactions.{committed, first_next, is_settled, state_of}
-use Rattle.xact_redo.specs.TransactionsOf.{transaction_of, transactions_of}
+use Rattle.xact_redo.specs.TransactionsOf.{transaction_of}
 use Rattle.row_model.specs.Versions.{Version, By, with_step, with_steps}
 use Rattle.row_model.specs.Multixacts.{multixacts}
 use Rattle.row_model.specs.Origins.{committed_in}
@@ -25,10 +23,10 @@ use Rattle.row_model.specs.RowSteps.{births, births_written, block_count, count_
 use Rattle.row_pages.specs.Pages.{values_of}
 use Rattle.standby_model.specs.Archived.{told_by}
 use Rattle.standby_model.specs.Laws.{OneLog}
-use Rattle.standby_model.specs.Log.{Stop, Ended, end_of}
+use Rattle.standby_model.specs.Log.{Stop, Ended}
 use Rattle.scan_model.specs.Run.{origin}
 use Rattle.scan_model.specs.Tables.{described, number_of, table_t}
-use Rattle.scan_model.specs.Scan.{Reply, Scanned, cell_text, end_line, line, pages_from, pages_text, row_line, text_of}
+use Rattle.scan_model.specs.Scan.{Reply, Scanned, cell_text, end_line, pages_from, pages_text, row_line, text_of}
 use Rattle.legal_scan.specs.Answer.{AnswersAdmitted, AnswersRows, AnswersStop, AnswersTable, LegalAnswer, admits, origin_with, page_with}
 use Rattle.worked_archive.specs.WorkedArchive.{IsWorkedArchive, files, log}
 use Rattle.worked_premise.specs.Premise.{FilesAreAnswered, reply, text, top}
@@ -88,7 +86,7 @@ named : number_of (codes "t") ≡ Some 0
 named = refl
 
 -- what a scan of these rows gives
-scan_of : ℕ → List Version → Reply
+abbrev scan_of : ℕ → List Version → Reply
 scan_of count rows = Scanned 0x2000168 0 count (pages_from (page_with 0 rows) 0 count)
 
 counted : (rows : List Version) → scan_of (block_count (origin_with top) table_t.file log) rows ≡ scan_of 1 rows
@@ -128,22 +126,9 @@ only worked one_log one_rows other a =
     let (same, end) = one_log (told_by files) described origin.redo.0 a.log log a.stop (Ended Zero) a.is_log (is_log worked) in
     table_only one_rows other (ends_so a.log a.stop other same end a.says)
 
-hex : (n : ℕ) → digits 16 true n ≡ digits_onto 64 16 true n []
-unfolding digits
-hex n = refl
-
-position : lsn_text 0x2000168 ≡ codes "0/2000168"
-unfolding lsn_text digits digits_onto
-position = refl
-
-one : signed_decimal (pos 1) ≡ codes "1"
-one = decimal_digit 1 (lit< 1 10)
-
 says : text_of reply ≡ text
-unfolding text_of pages_text row_line cell_text end_line
-says =
-    ap (λ (at : List ℕ). line (codes "scan 1 at " ++ at) ++ _) position
-    ∙ ap (λ (n : List ℕ). line (codes "scan 1 at 0/2000168") ++ (line (codes "row " ++ (n ++ 9 ∷ codes "one")) ++ line (codes "end 1"))) one
+unfolding text_of pages_text row_line cell_text end_line lsn_text digits
+says = refl
 
 pub files_are_answered : IsWorkedArchive → OneLog → OneRows → FilesAreAnswered
 files_are_answered worked one_log one_rows =

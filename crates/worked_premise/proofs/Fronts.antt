@@ -1,9 +1,9 @@
 -- A log that stands over the files is a front of the whole one, and each of these is legal.
-use Rattle.std.proofs.Common.{◌≡◌, ℕ, ◌⊎◌, inl, inr, List, [], ◌∷◌, Result, Ok, Err, refl, sym, ap, subst, ◌∙◌}
+use Rattle.std.proofs.Common.{◌≡◌, ℕ, ◌⊎◌, inl, inr, List, [], ◌∷◌, Result, Ok, Err, refl, sym, subst}
 use Rattle.wal_reader.specs.Told.{Told}
 use Rattle.wal_bodies.specs.declared.types.Rec.{Rec}
 use Rattle.standby_model.specs.Archived.{told_by}
-use Rattle.standby_model.specs.Log.{Described, IsLog, Stands, Stop, next_of}
+use Rattle.standby_model.specs.Log.{IsLog, Stands, Stop, next_of}
 use Rattle.row_model.specs.LegalRows.{LegalLog}
 use Rattle.row_model.specs.WorkedRows.{worked_origin}
 use Rattle.scan_model.specs.Run.{origin}
@@ -26,8 +26,10 @@ not_both : {A E : Type 0} (r : Result A E) (a : A) (e : E) → r ≡ Ok a → r 
 not_both r a e p q = cc
 
 module _ (told : Told) (from : ℕ) where
-  moved : (log other : List Rec) (found : Result Rec Stop) → other ≡ log → next_of told described from other ≡ found → next_of told described from log ≡ found
-  moved log other found e f = subst (λ (l : List Rec). next_of told described from l ≡ found) e f
+  moved :
+      (one other : List Rec) (found : Result Rec Stop) → other ≡ one → next_of told described from other ≡ found
+      → next_of told described from one ≡ found
+  moved one other found e f = subst (λ (l : List Rec). next_of told described from l ≡ found) e f
 
   is_whole : (log : List Rec) → IsFront log log
   is_whole [] = refl

@@ -1,3 +1,4 @@
 mod Answered
+mod Bytes
 mod Fronts
 mod Told

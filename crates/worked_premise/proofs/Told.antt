@@ -1,5 +1,5 @@
 -- The log of the reader, with its records in typed form, is the log that the files tell.
-use Rattle.std.proofs.Common.{◌≡◌, ℕ, List, [], ◌∷◌, Result, Ok, Err, refl, sym, ap, subst, ◌∙◌}
+use Rattle.std.proofs.Common.{◌≡◌, ℕ, List, [], ◌∷◌, Result, Ok, Err, refl, sym, ap, ◌∙◌}
 use Rattle.wal_record.specs.declared.types.PrevRule.{PrevRule}
 use Rattle.wal_record.specs.declared.types.PrevRule.TheVariants.{Below, Is}
 use Rattle.wal_reader.specs.declared.types.EndWhy.TheVariants.{Zero}
@@ -11,7 +11,7 @@ use Rattle.wal_reader.specs.Told.{Told}
 use Rattle.pg_types.specs.declared.names.Lsn.{Lsn}
 use Rattle.wal_bodies.specs.declared.types.Rec.{Rec}
 use Rattle.standby_model.specs.Archived.{told_by}
-use Rattle.standby_model.specs.Log.{Described, IsLog, Stands, Stop, Ended, end_of, link_after, next_of, record_at, typed_at, typed_of, unless_refused}
+use Rattle.standby_model.specs.Log.{IsLog, Stands, Ended, end_of, link_after, next_of, record_at, typed_of, unless_refused}
 use Rattle.scan_model.specs.Run.{origin}
 use Rattle.scan_model.specs.Tables.{described}
 use Rattle.worked_archive.specs.WorkedArchive.{AreTyped, IsWorkedArchive, entries, files, log}

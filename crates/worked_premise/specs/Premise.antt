@@ -10,7 +10,7 @@ use Rattle.standby_model.specs.Archived.{told_by}
 use Rattle.standby_model.specs.Log.{IsLog, Ended}
 use Rattle.scan_model.specs.Run.{origin}
 use Rattle.scan_model.specs.Tables.{described}
-use Rattle.scan_model.specs.Scan.{Reply, Scanned, line, status_of, text_of}
+use Rattle.scan_model.specs.Scan.{Reply, Scanned, Answers, line, status_of, text_of}
 use Rattle.legal_scan.specs.Answer.{IsLegal, LegalAnswer}
 use Rattle.worked_archive.specs.WorkedArchive.{files, log}
 
@@ -42,3 +42,7 @@ pub record FilesAreAnswered : Type 0 where
   pub only : (other : Reply) → LegalAnswer top files (codes "t") other → other ≡ reply
   pub says : text_of reply ≡ text
   pub status : status_of reply ≡ 0
+
+-- what the program's words are answered by, over a standby that replays the files: that, and nothing else
+abbrev pub ScanIsAnswered : Type 0
+ScanIsAnswered = (other : Reply) → Answers (codes "scan" ∷ codes "t" ∷ []) files other → other ≡ reply

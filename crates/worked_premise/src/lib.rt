@@ -2,7 +2,7 @@
 //! is the answer.
 #![tactic(auto)]
 
-ghost use Rattle.worked_premise.specs.Premise.{FilesAreAnswered, FilesAreLegal};
+ghost use Rattle.worked_premise.specs.Premise.{FilesAreAnswered, FilesAreLegal, ScanIsAnswered};
 
 /// A primary could write each front of the log that the example's files tell.
 pub fn files_are_legal()
@@ -20,4 +20,13 @@ pub fn files_are_answered()
     worked_archive::worked_archive();
     standby_model::one_log();
     row_model::one_rows();
+}
+
+/// So whatever answers the words `scan t` over these files answers that.
+pub fn scan_is_answered()
+    ensures { ScanIsAnswered }
+{
+    files_are_legal();
+    files_are_answered();
+    legal_scan::legal_scan();
 }
