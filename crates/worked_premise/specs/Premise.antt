@@ -43,6 +43,7 @@ pub record FilesAreAnswered : Type 0 where
   pub says : text_of reply ≡ text
   pub status : status_of reply ≡ 0
 
--- what the program's words are answered by, over a standby that replays the files: that, and nothing else
-abbrev pub ScanIsAnswered : Type 0
-ScanIsAnswered = (other : Reply) → Answers (codes "scan" ∷ codes "t" ∷ []) files other → other ≡ reply
+-- Over a standby that replays the files the words `scan t` are answered by that, and by nothing else.
+pub record ScanIsAnswered : Type 0 where
+  pub answers : Answers (codes "scan" ∷ codes "t" ∷ []) files reply
+  pub only : (other : Reply) → Answers (codes "scan" ∷ codes "t" ∷ []) files other → other ≡ reply

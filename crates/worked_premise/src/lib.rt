@@ -22,10 +22,11 @@ pub fn files_are_answered()
     row_model::one_rows();
 }
 
-/// So whatever answers the words `scan t` over these files answers that.
+/// So is it by a standby that replays them.
 pub fn scan_is_answered()
     ensures { ScanIsAnswered }
 {
+    worked_archive::worked_archive();
     files_are_legal();
     files_are_answered();
     legal_scan::legal_scan();
