@@ -2,10 +2,8 @@
 //! bench/pages/run.sh; with no number it tells how.
 #![tactic(auto)]
 
-ghost use Rattle.heap_page.specs.Page.{IsPage};
-
 use anyhow::Result;
-use heap_page::{Page, check, init, put};
+use heap_page::{HeapPage, Page, check};
 use std::env;
 use std::time::Instant;
 
@@ -16,17 +14,14 @@ const HEAD: [u8; 23] = [
 
 /// Fills a page without items with so many tuples that begin with that header, from the first line on or
 /// from the last one.
-fn fill(page: &mut Page, lines: u16, from_last: bool, rest: &[u8])
-    requires { IsPage page.old }
-    ensures { IsPage page.new }
-{
+fn fill(page: &mut HeapPage, lines: u16, from_last: bool, rest: &[u8]) {
     for earlier in 0..lines {
         let line = if from_last {
             lines - earlier
         } else {
             earlier + 1
         };
-        let _answer = put(page, line, &HEAD, rest);
+        let _answer = page.put(line, &HEAD, rest);
     }
 }
 
@@ -50,9 +45,9 @@ fn speed(
     from_last: bool,
     rest: &[u8],
 ) -> Result<(u128, u32)> {
-    let mut page: Page = [0; 8192];
-    init(&mut page);
-    fill(&mut page, lines, from_last, rest);
+    let mut filled = HeapPage::new();
+    fill(&mut filled, lines, from_last, rest);
+    let mut page = *filled.bytes();
     let begun = Instant::now(rt)?;
     let count = accepted(&mut page, checks);
     let micros = begun.elapsed(rt)?.as_micros();

@@ -2,7 +2,7 @@ ghost use Rattle.std.specs.Prelude.{◌≡◌, ◌≤◌, length};
 
 use byteorder::{ByteOrder, LittleEndian};
 use case_text::{ShowHex, ShowPosition, Wrong, bytes, number_u8, number_u16, number_u32, place};
-use heap_page::{Item, Page, check, item, lines, lsn};
+use heap_page::{HeapPage, Item};
 use heap_tuple::TupleView;
 use std::alloc::Global;
 use std::fmt;
@@ -103,19 +103,16 @@ impl<'a> fmt::Display for ShowItem<'a> {
 
 /// Shows a page: its position, and its lines up to the last that is in use.
 #[derive(Drop)]
-pub struct ShowPage<'a>(pub &'a Page);
+pub struct ShowPage<'a>(pub &'a HeapPage);
 
 impl<'a> fmt::Display for ShowPage<'a> {
     fn fmt<W: fmt::Write>(&self, f: &mut fmt::Formatter<W>) -> fmt::Result {
-        if !check(self.0) {
-            return write!(f, "no page");
-        }
-        let at = ShowPosition(lsn(self.0));
-        let count = lines(self.0);
+        let at = ShowPosition(self.0.lsn());
+        let count = self.0.lines();
         write!(f, "at {at}, {count} lines")?;
         for k in 0..count {
             let line = k + 1;
-            let here = ShowItem(item(self.0, line));
+            let here = ShowItem(self.0.item(line));
             write!(f, "\n    {line}: {here}")?;
         }
         Ok(())

@@ -1,84 +1,113 @@
 ghost use Rattle.std.specs.Prelude.{◌≡◌};
-ghost use Rattle.heap_page.specs.Page.{IsPage};
 ghost use Rattle.heap_page.specs.Shown.{IsState};
 
 use crate::items::{ShowItem, ShowPage, header, parts};
 use case_text::{Wrong, bytes, number_u8, number_u16, position};
-use heap_page::{
-    LineState, Page, PageError, check, init, item, put, restore, set_head, set_line, set_lsn,
-};
+use heap_page::{HeapPage, LineState, Page, PageError, check, shows_page};
 use std::alloc::Global;
 use wal_record::ImageView;
 
-/// Answers a line about the page.
-pub fn answer(alloc: Global, page: &mut Page, words: &[&str]) -> Result<String, Wrong> {
+/// Answers a line about the block, which may be no page.
+pub fn answer(alloc: Global, block: &mut Page, words: &[&str]) -> Result<String, Wrong> {
     match *words {
-        ["show"] => {
-            let text = ShowPage(page);
-            Ok(format!(in alloc; "{text}")?)
-        }
-        ["item", line] => item_text(alloc, page, number_u16(line)?),
+        ["show"] => page_text(alloc, block),
+        ["item", line] => item_text(alloc, block, number_u16(line)?),
         _ => {
-            let text = change(alloc, page, words)?;
+            let text = change(alloc, block, words)?;
             Ok(String::from_str(alloc, text)?)
         }
     }
 }
 
-fn item_text(alloc: Global, page: &Page, line: u16) -> Result<String, Wrong> {
-    if !check(page) {
-        return Ok(String::from_str(alloc, "no page")?);
+fn page_text(alloc: Global, block: &Page) -> Result<String, Wrong> {
+    match HeapPage::read(block) {
+        Some(page) => {
+            let text = ShowPage(&page);
+            Ok(format!(in alloc; "{text}")?)
+        }
+        None => Ok(String::from_str(alloc, "no page")?),
     }
-    let text = ShowItem(item(page, line));
-    Ok(format!(in alloc; "{text}")?)
 }
 
-fn change(alloc: Global, page: &mut Page, words: &[&str]) -> Result<&'static str, Wrong> {
+fn item_text(alloc: Global, block: &Page, line: u16) -> Result<String, Wrong> {
+    match HeapPage::read(block) {
+        Some(page) => {
+            let text = ShowItem(page.item(line));
+            Ok(format!(in alloc; "{text}")?)
+        }
+        None => Ok(String::from_str(alloc, "no page")?),
+    }
+}
+
+fn change(alloc: Global, block: &mut Page, words: &[&str]) -> Result<&'static str, Wrong> {
     match *words {
         ["init"] => {
-            init(page);
+            let page = HeapPage::new();
+            *block = *page.bytes();
             Ok("ok")
         }
         ["filled", byte] => {
-            *page = [number_u8(byte)?; 8192];
+            *block = [number_u8(byte)?; 8192];
             Ok("ok")
         }
-        ["byte", at, value] => set_byte(page, at, value),
+        ["byte", at, value] => set_byte(block, at, value),
         ["image", hole_at, data] => {
             let data = bytes(alloc, data)?;
-            restored(page, number_u16(hole_at)?, data.as_slice())
+            restored(block, number_u16(hole_at)?, data.as_slice())
         }
-        ["check"] => Ok(if check(page) { "yes" } else { "no" }),
-        _ => kept(alloc, page, words),
+        ["check"] => Ok(if check(block) { "yes" } else { "no" }),
+        _ => kept(alloc, block, words),
     }
 }
 
-/// Puts a byte, which the page may then not be one for.
-pub fn set_byte(page: &mut Page, at: &str, value: &str) -> Result<&'static str, Wrong> {
+/// Puts a byte, by which the block may become no page.
+fn set_byte(block: &mut Page, at: &str, value: &str) -> Result<&'static str, Wrong> {
     let value = number_u8(value)?;
     let at = number_u16(at)?;
-    match page.get_mut(at as usize) {
+    match block.get_mut(at as usize) {
         Some(place) => *place = value,
         None => return Err(Wrong::Number),
     }
     Ok("ok")
 }
 
-fn restored(page: &mut Page, hole_at: u16, bytes: &[u8]) -> Result<&'static str, Wrong> {
+/// Puts a byte into a page, unless that would be none.
+pub fn set_page_byte(page: &mut HeapPage, at: &str, value: &str) -> Result<&'static str, Wrong> {
+    let mut block = *page.bytes();
+    let text = set_byte(&mut block, at, value)?;
+    match HeapPage::read(&block) {
+        Some(changed) => {
+            *page = changed;
+            Ok(text)
+        }
+        None => Ok("no page"),
+    }
+}
+
+/// Puts the page that an image shows over the block.
+fn restored(block: &mut Page, hole_at: u16, bytes: &[u8]) -> Result<&'static str, Wrong> {
     let image = ImageView {
         apply: true,
         hole_at,
         bytes,
     };
-    Ok(shown(restore(page, &image)))
+    if !shows_page(&image) {
+        return Ok("bad page");
+    }
+    let mut page = HeapPage::read(block).unwrap_or(HeapPage::new());
+    page.restore(&image);
+    *block = *page.bytes();
+    Ok("ok")
 }
 
 /// A change that asks for a page.
-fn kept(alloc: Global, page: &mut Page, words: &[&str]) -> Result<&'static str, Wrong> {
-    if !check(page) {
+fn kept(alloc: Global, block: &mut Page, words: &[&str]) -> Result<&'static str, Wrong> {
+    let Some(mut page) = HeapPage::read(block) else {
         return Ok("no page");
-    }
-    change_page(alloc, page, words)
+    };
+    let text = change_page(alloc, &mut page, words)?;
+    *block = *page.bytes();
+    Ok(text)
 }
 
 /// What a change of a page answers.
@@ -92,12 +121,14 @@ fn shown(answer: Result<(), PageError>) -> &'static str {
 }
 
 /// Changes a page in the way that the words say.
-pub fn change_page(alloc: Global, page: &mut Page, words: &[&str]) -> Result<&'static str, Wrong>
-    requires { IsPage page.old }
-{
+pub fn change_page(
+    alloc: Global,
+    page: &mut HeapPage,
+    words: &[&str],
+) -> Result<&'static str, Wrong> {
     match *words {
         ["lsn", at] => {
-            set_lsn(page, position(at)?);
+            page.set_lsn(position(at)?);
             Ok("ok")
         }
         ["line", line, "unused"] => state(page, line, LineState::Unused),
@@ -107,18 +138,15 @@ pub fn change_page(alloc: Global, page: &mut Page, words: &[&str]) -> Result<&'s
     }
 }
 
-fn state(page: &mut Page, line: &str, to: LineState) -> Result<&'static str, Wrong>
-    requires page { IsPage page.old }
-    requires state { IsState to }
+fn state(page: &mut HeapPage, line: &str, to: LineState) -> Result<&'static str, Wrong>
+    requires { IsState to }
 {
     let line = number_u16(line)?;
-    Ok(shown(set_line(page, line, to)))
+    Ok(shown(page.set_line(line, to)))
 }
 
 /// A line that is redirected to another one, whose number has 15 bits.
-fn redirect(page: &mut Page, line: &str, to: u16) -> Result<&'static str, Wrong>
-    requires { IsPage page.old }
-{
+fn redirect(page: &mut HeapPage, line: &str, to: u16) -> Result<&'static str, Wrong> {
     if to >= 0x8000 {
         return Err(Wrong::Number);
     }
@@ -126,9 +154,7 @@ fn redirect(page: &mut Page, line: &str, to: u16) -> Result<&'static str, Wrong>
 }
 
 /// A tuple, or the header of one, goes to a line.
-fn change_tuple(alloc: Global, page: &mut Page, words: &[&str]) -> Result<&'static str, Wrong>
-    requires { IsPage page.old }
-{
+fn change_tuple(alloc: Global, page: &mut HeapPage, words: &[&str]) -> Result<&'static str, Wrong> {
     match words.split_first() {
         Some((first, rest)) => match *first {
             "put" => put_fields(alloc, page, rest),
@@ -139,27 +165,23 @@ fn change_tuple(alloc: Global, page: &mut Page, words: &[&str]) -> Result<&'stat
     }
 }
 
-fn put_fields(alloc: Global, page: &mut Page, words: &[&str]) -> Result<&'static str, Wrong>
-    requires { IsPage page.old }
-{
+fn put_fields(alloc: Global, page: &mut HeapPage, words: &[&str]) -> Result<&'static str, Wrong> {
     match words.split_first() {
         Some((line, fields)) => {
             let line = number_u16(*line)?;
             let tuple = parts(alloc, fields)?;
-            Ok(shown(put(page, line, &tuple.head, tuple.rest.as_slice())))
+            Ok(shown(page.put(line, &tuple.head, tuple.rest.as_slice())))
         }
         None => Err(Wrong::Line),
     }
 }
 
-fn set_fields(page: &mut Page, words: &[&str]) -> Result<&'static str, Wrong>
-    requires { IsPage page.old }
-{
+fn set_fields(page: &mut HeapPage, words: &[&str]) -> Result<&'static str, Wrong> {
     match words.split_first() {
         Some((line, fields)) => {
             let line = number_u16(*line)?;
             let head = header(fields)?;
-            Ok(shown(set_head(page, line, &head)))
+            Ok(shown(page.set_head(line, &head)))
         }
         None => Err(Wrong::Line),
     }

@@ -2,7 +2,7 @@ ghost use Rattle.std.specs.Prelude.{◌≡◌, ◌<◌, IfOk};
 ghost use Rattle.page_store.specs.Content.{table_count};
 
 use crate::items::ShowPage;
-use crate::pages::{change_page, set_byte};
+use crate::pages::{change_page, set_page_byte};
 use case_text::{Wrong, number_u16, number_u32};
 use page_store::{Pool, PoolFault};
 use pg_types::Tag;
@@ -91,13 +91,13 @@ fn fresh(pool: &mut Pool, tag: Tag) -> Result<&'static str, Wrong>
     }
 }
 
-/// Puts a byte into a block's page, which may then be none.
+/// Puts a byte into a block's page, unless that would be none.
 fn spoil(pool: &mut Pool, tag: Tag, at: &str, value: &str) -> Result<&'static str, Wrong>
     requires { tag.table < table_count pool.old }
     ensures { table_count pool.new ≡ table_count pool.old }
 {
     match pool.page(tag) {
-        Ok(page) => set_byte(page, at, value),
+        Ok(page) => set_page_byte(page, at, value),
         Err(fault) => Ok(shown(fault)),
     }
 }

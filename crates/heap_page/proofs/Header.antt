@@ -31,6 +31,7 @@ pub record Blank (page : List ℕ) : Type 0 where
   pub version : version_of page ≡ 0
   pub lsn : lsn_of page ≡ 0
   pub count : line_count page ≡ 0
+  pub upper : upper_of page ≡ 0
   pub items : items_of page ≡ []
 
 pub blank : (page : List ℕ) → ((i : ℕ) → get_or page i 0 ≡ 0) → Blank page
@@ -42,6 +43,7 @@ blank page h =
       version = field 2 18;
       lsn = omega (arith, field 4 0, field 4 4);
       count = count;
+      upper = field 2 14;
       items = no-lines page count;
     }
 

@@ -1,4 +1,6 @@
 pub mod Changes
+pub mod Gap
+pub mod HeadKept
 pub mod Header
 pub mod Restored
 pub mod Kept

@@ -59,7 +59,7 @@ share-none a b c d wa wb wc wd ab cd h =
       ]
     ]
 
-apart-no_unit : (a b c d unit : ℕ) → (b ≤ c) ⊎ (d ≤ a) → a / 8 ≤ unit → unit < b / 8 → c / 8 ≤ unit → unit < d / 8 → ⊥
+pub apart-no_unit : (a b c d unit : ℕ) → (b ≤ c) ⊎ (d ≤ a) → a / 8 ≤ unit → unit < b / 8 → c / 8 ≤ unit → unit < d / 8 → ⊥
 apart-no_unit a b c d unit h f g i j = elim h [ inl before ↦ omega (arith, before) | inr behind ↦ omega (arith, behind) ]
 
 -- before the first line

@@ -1,5 +1,5 @@
-ghost use Rattle.std.specs.Prelude.{◌≡◌, ◌+◌, ◌-◌, ◌*◌, ◌/◌, ◌^◌, ◌≤◌, ◌<◌, ◌++◌, max, length, IsTrue, OnOk, OnErr};
-ghost use Rattle.heap_tuple.specs.Tuple.{is_tuple};
+ghost use Rattle.std.specs.Prelude.{◌≡◌, ◌+◌, ◌-◌, ◌*◌, ◌/◌, ◌^◌, ◌≤◌, ◌<◌, ◌++◌, max, nat_le, nat_lt, length, IsTrue, OnOk, OnErr};
+ghost use Rattle.heap_tuple.specs.Tuple.{is_tuple, IsTuple};
 ghost use Rattle.heap_page.specs.Item.{normal, with_item, numbered, is_normal, tuple_in, aligned, room_in};
 ghost use Rattle.heap_page.specs.Page.{lsn_of, upper_of, line_count, items_of, is_laid, IsPage};
 ghost use Rattle.heap_page.specs.Put.{is_free, put_answer, set_head_answer, with_head};
@@ -28,6 +28,21 @@ fn is_normal(page: &Page, line: u16) -> bool
         Item::Normal(_) => true,
         _ => false,
     }
+}
+
+/// What `set_head` answers.
+#[tactic(auto, unfolding(crate::specs::Put::set_head_answer))]
+pub fn check_head(page: &Page, line: u16, head: &[u8; 23]) -> Result<(), PageError>
+    requires { IsPage page.now }
+    ensures { result ≡ set_head_answer (items_of page.now) line head.now }
+{
+    let Item::Normal(bytes) = item(page, line) else {
+        return Err(PageError::NoLine);
+    };
+    if !is_joined_tuple(head, part(bytes, 23, bytes.len() - 23)) {
+        return Err(PageError::BadPage);
+    }
+    Ok(())
 }
 
 /// Puts another header into the tuple of a line, numbered from 1; its bytes from 23 on stay. `NoLine`
@@ -76,8 +91,36 @@ fn size_with(page: &Page, line: u16, len: usize) -> usize
     24 + 4 * count + (room_in(page) + aligned(len))
 }
 
+/// Whether a tuple of this length and its line, numbered from 1, fit into the free part as it is.
+#[tactic(auto, using(std::proofs::lemmas::Bool::Decides::nat_tests))]
+fn has_gap(page: &Page, line: u16, len: usize) -> bool
+    requires few { line_count page.now ≤ 2042 }
+    requires length { len < 2 ^ 63 + 2 ^ 61 }
+    ensures { result ≡ nat_le (24 + 4 * max (line_count page.now) line + aligned len)
+        (upper_of page.now / 8 * 8) }
+{
+    let count = line_count(page).max(line as usize);
+    24 + 4 * count + aligned(len) <= u16_at(page, 14) as usize / 8 * 8
+}
+
+/// Whether the page has no room for a tuple of this length at a line, numbered from 1, however its tuples
+/// stand. Where the free part has the room, the lines are not summed.
+#[tactic(auto, using(std::proofs::lemmas::Bool::Decides::nat_tests))]
+fn is_full(page: &Page, line: u16, len: usize) -> bool
+    requires page { IsPage page.now }
+    requires length { len < 2 ^ 63 + 2 ^ 61 }
+    ensures { result ≡ nat_lt 8192 (24 + 4 * max (length (items_of page.now)) line
+        + (room_in (items_of page.now) + aligned len)) }
+{
+    if has_gap(page, line, len) {
+        return false;
+    }
+    8192 < size_with(page, line, len)
+}
+
 /// Makes room in the free part for a tuple of this length at a line, numbered from 1. The room is there
 /// once the tuples stand one behind the other.
+#[tactic(auto, using(std::proofs::lemmas::Bool::Decides::nat_tests))]
 fn make_room(page: &mut Page, line: u16, len: usize)
     requires laid { IsTrue (is_laid page.old) }
     requires room { 24 + 4 * max (length (items_of page.old)) line
@@ -87,18 +130,35 @@ fn make_room(page: &mut Page, line: u16, len: usize)
     ensures lsn { lsn_of page.new ≡ lsn_of page.old }
     ensures fits { 24 + 4 * max (line_count page.new) line + aligned len ≤ upper_of page.new / 8 * 8 }
 {
-    let count = line_count(page).max(line as usize);
-    let upper = u16_at(page, 14) as usize / 8 * 8;
-    if upper < 24 + 4 * count + aligned(len) {
+    if !has_gap(page, line, len) {
         compact(page);
     }
 }
 
+/// What `put` answers.
+#[tactic(auto, using(std::proofs::lemmas::Bool::Decides::nat_tests), unfolding(crate::specs::Put::put_answer))]
+pub fn check_put(page: &Page, line: u16, head: &[u8; 23], rest: &[u8]) -> Result<(), PageError>
+    requires { IsPage page.now }
+    ensures answer { result ≡ put_answer (items_of page.now) line (head.now ++ rest.now) }
+    ensures line { OnOk result (0 < line) }
+    ensures tuple { OnOk result (IsTuple (head.now ++ rest.now)) }
+    ensures room { OnOk result (24 + 4 * max (length (items_of page.now)) line
+        + (room_in (items_of page.now) + aligned (23 + length rest.now)) ≤ 8192) }
+{
+    if !is_free(page, line) {
+        return Err(PageError::NoLine);
+    }
+    if !is_joined_tuple(head, rest) {
+        return Err(PageError::BadPage);
+    }
+    if is_full(page, line, 23 + rest.len()) {
+        return Err(PageError::Full);
+    }
+    Ok(())
+}
+
 /// Puts a tuple at a free line, numbered from 1: its header and its bytes from 23 on. Lines between the
-/// last and the new one become unused. `NoLine` comes exactly where the line is 0 or not free, then
-/// `BadPage` exactly where the bytes break the tuple rule, then `Full` exactly where the page has no
-/// room, however its tuples stand.
-#[tactic(auto, unfolding(crate::specs::Put::put_answer))]
+/// last and the new one become unused.
 pub fn put(page: &mut Page, line: u16, head: &[u8; 23], rest: &[u8]) -> Result<(), PageError>
     requires { IsPage page.old }
     ensures answer { result ≡ put_answer (items_of page.old) line (head.now ++ rest.now) }
@@ -108,18 +168,12 @@ pub fn put(page: &mut Page, line: u16, head: &[u8; 23], rest: &[u8]) -> Result<(
     ensures lsn { lsn_of page.new ≡ lsn_of page.old }
     ensures page { IsPage page.new }
 {
-    if !is_free(page, line) {
-        return Err(PageError::NoLine);
-    }
-    if !is_joined_tuple(head, rest) {
-        return Err(PageError::BadPage);
-    }
-    let len = 23 + rest.len();
-    if 8192 < size_with(page, line, len) {
-        return Err(PageError::Full);
+    match check_put(page, line, head, rest) {
+        Ok(()) => {}
+        Err(error) => return Err(error),
     }
     lay_out(page);
-    make_room(page, line, len);
+    make_room(page, line, 23 + rest.len());
     place(page, line as usize - 1, head, rest);
     Ok(())
 }

@@ -1,9 +1,9 @@
-ghost use Rattle.std.specs.Prelude.{◌≡◌, ◌+◌, ◌-◌, ◌≤◌, ◌++◌, length, replicate, OnOk, OnErr};
-ghost use Rattle.heap_page.specs.Page.{IsPage};
-ghost use Rattle.heap_page.specs.Put.{restored, restore_answer};
+ghost use Rattle.std.specs.Prelude.{◌≡◌, ◌+◌, ◌-◌, ◌≤◌, ◌++◌, length, replicate};
+ghost use Rattle.heap_page.specs.Page.{is_page};
+ghost use Rattle.heap_page.specs.Put.{restored};
 
-use crate::bytes::{part, write_bytes, zero_out};
-use crate::line::{Page, PageError};
+use crate::bytes::{part, write_bytes, write_zeros};
+use crate::line::Page;
 use crate::rule::check;
 use wal_record::ImageView;
 
@@ -14,35 +14,35 @@ fn assemble(page: &mut Page, first: &[u8], rest: &[u8])
         ++ replicate (8192 - (length first.now + length rest.now)) 0
         ++ rest.now }
 {
-    zero_out(page);
+    let end = 8192 - rest.len();
     write_bytes(page, 0, first);
-    write_bytes(page, 8192 - rest.len(), rest);
+    write_zeros(page, first.len(), end);
+    write_bytes(page, end, rest);
 }
 
-/// Makes the block the page that a full-page image shows, whatever the block held. `BadPage` comes
-/// exactly where that page breaks the page rule.
-#[tactic(auto, unfolding(crate::specs::Put::restore_answer))]
-pub fn restore(page: &mut Page, image: &ImageView<'_>) -> Result<(), PageError>
-    ensures answer { result ≡ restore_answer image.now.hole_at image.now.bytes.now }
-    ensures ok { OnOk result (page.new ≡ restored image.now.hole_at image.now.bytes.now) }
-    ensures err { OnErr result (page.new ≡ page.old) }
-    ensures page { OnOk result (IsPage page.new) }
+/// Puts the block that an image shows in place of what stood there.
+pub fn assemble_image(page: &mut Page, image: &ImageView<'_>)
+    requires { length image.now.bytes.now ≤ 8192 }
+    ensures { page.new ≡ restored image.now.hole_at image.now.bytes.now }
 {
     let bytes = image.bytes;
     let len = bytes.len();
-    if 8192 < len {
-        return Err(PageError::BadPage);
-    }
     let hole_at = (image.hole_at as usize).min(len);
-    let mut whole = *page;
     assemble(
-        &mut whole,
+        page,
         part(bytes, 0, hole_at),
         part(bytes, hole_at, len - hole_at),
     );
-    if !check(&whole) {
-        return Err(PageError::BadPage);
+}
+
+/// Whether the block that a full-page image shows keeps the page rule.
+pub fn shows_page(image: &ImageView<'_>) -> bool
+    ensures { result ≡ is_page (restored image.now.hole_at image.now.bytes.now) }
+{
+    if 8192 < image.bytes.len() {
+        return false;
     }
-    *page = whole;
-    Ok(())
+    let mut page = [0; 8192];
+    assemble_image(&mut page, image);
+    check(&page)
 }

@@ -11,10 +11,10 @@ mod page;
 mod pointer;
 mod room;
 mod rule;
+mod typed_page;
 
-pub use change::{put, set_head};
-pub use image::restore;
+pub use image::shows_page;
 pub use laws::{items_end_in_use, one_line_changes, tuples_keep_their_rule, zeros_have_no_items};
 pub use line::{Item, LineState, Page, PageError};
-pub use page::{init, item, lines, lsn, set_line, set_lsn};
 pub use rule::check;
+pub use typed_page::HeapPage;

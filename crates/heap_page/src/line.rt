@@ -1,7 +1,6 @@
 use thiserror::Error;
 
-/// A block of a heap. Calls but `init`, `restore` and `check` have the condition that it keeps the page
-/// rule, and all calls leave it so.
+/// The bytes of a block of a heap.
 pub type Page = [u8; 8192];
 
 /// What stands at a line of a page (`ItemIdData`, itemid.h). A redirect names another line.

@@ -2,6 +2,7 @@ pub mod Bytes
 pub mod Lines
 pub mod Versions
 pub mod Updates
+pub mod Marks
 pub mod OneBlock
 pub mod Views
 pub mod Sequence

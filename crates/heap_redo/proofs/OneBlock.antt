@@ -2,11 +2,11 @@
 use Rattle.std.proofs.Common.{arith, ap, sym, refl, ◌∙◌, ◌≡◌, ◌≢◌, ◌<◌, ◌≤◌, ℕ, Bool, true, false, not, ◌&&◌, ◌||◌, ◌==◌, cond, nat_le, List, [], Option, Some, None, is_some, Result, Ok, Err}
 use Rattle.std.proofs.lemmas.Bool.{false≢true}
 use Rattle.std.proofs.lemmas.Bool.Decides.{nat_tests}
-use Rattle.heap_page.specs.Page.{IsPage, lsn_of, items_of}
+use Rattle.heap_page.specs.Page.{IsPage, is_page, lsn_of, items_of}
 use Rattle.wal_record.specs.declared.new.NewImage.{NewImage}
 use Rattle.wal_bodies.specs.declared.types.Rec.{Rec}
 use Rattle.wal_bodies.specs.declared.types.RecBlock.{RecBlock}
-use Rattle.heap_redo.specs.After.{BlockRefusal, no_page, bad_page, Content, missing, broken, page, applied, is_images, after_restore, made_anew, paged, changed, changed_page, after_change, after_image, after}
+use Rattle.heap_redo.specs.After.{BlockRefusal, no_page, bad_page, Content, missing, broken, page, applied, is_images, page_of_image, after_restore, made_anew, paged, changed, changed_page, after_change, after_image, after}
 use Rattle.heap_redo.specs.declared.fault.Refusal.{Refusal}
 use Rattle.heap_redo.specs.Refused.{outcome, content_outcome}
 use Rattle.heap_redo.specs.Redone.{Seen, absent, bad_block, seen_page, seen, content_of, stamped, is_anew, is_left, has_reached, left_by, redone_block}
@@ -61,6 +61,17 @@ module _ (rec : Rec) (block : RecBlock) where
 
   pub image-not : is_anew block ≡ false → applied block.image ≡ None
   image-not h = none (applied block.image) (or-left (is_some (applied block.image)) block.will_init h)
+
+  -- an image is restored
+  pub image-anew : (image : NewImage) → applied block.image ≡ Some image → is_anew block ≡ true
+  image-anew image restored = ap (λ found. is_some found || block.will_init) restored
+
+  and-not : (a : Bool) → (a && false) ≡ false
+  and-not true = refl
+  and-not false = refl
+
+  pub image-not_left : (image : NewImage) → applied block.image ≡ Some image → is_left rec block ≡ false
+  image-not_left image restored = ap (λ found. is_images rec.kind && not (is_some found)) restored ∙ and-not (is_images rec.kind)
 
   -- the block is not the one that no table has
   module _ (not-last : (block.block == 4294967295) ≡ false) where
@@ -119,6 +130,28 @@ module _ (rec : Rec) (block : RecBlock) where
     pub refused-anew : is_anew block ≡ true → (before : Seen) (refusal : BlockRefusal) → Err refusal ≡ after rec block (content_of before) → Err refusal ≡ redone_block rec block before
     refused-anew anew before refusal e =
         sym (redone-by before (ap (λ v. not v && has_reached rec.end.0 before) anew) ∙ ap (left_by rec block before) (sym e))
+
+    -- a block whose image is restored
+    module _ (image : NewImage) (restored : applied block.image ≡ Some image) where
+      after-tested : (v : Bool) → is_page (page_of_image image) ≡ v → (before : Content) → cond v (Ok (page (items_of (page_of_image image)))) (Err bad_page) ≡ after rec block before
+      after-tested v tested before =
+          let answer : Bool → Result Content BlockRefusal = λ b. cond b (Ok (page (items_of (page_of_image image)))) (Err bad_page) in
+          ap answer (sym tested) ∙ after-restored image restored before
+
+      pub image-refused : is_page (page_of_image image) ≡ false → (before : Seen) → Err bad_page ≡ redone_block rec block before
+      image-refused tested before = refused-anew (image-anew image restored) before bad_page (after-tested false tested (content_of before))
+
+      pub image-left : is_page (page_of_image image) ≡ true → (before : Seen) → Ok (seen_page rec.end.0 (items_of (page_of_image image))) ≡ redone_block rec block before
+      image-left tested before =
+          sym (redone-by before (ap (λ v. not v && has_reached rec.end.0 before) (image-anew image restored))
+          ∙ ap (left_by rec block before) (sym (after-tested true tested (content_of before)))
+          ∙ left-ok (image-not_left image restored) before (page (items_of (page_of_image image))))
+
+      pub image-done : is_page (page_of_image image) ≡ true → (before : Seen) (bytes : List ℕ) → IsPage bytes → lsn_of bytes ≡ rec.end.0 → items_of bytes ≡ items_of (page_of_image image) → Ok (seen (Some bytes)) ≡ redone_block rec block before
+      image-done tested before bytes rule lsn items =
+          let ok : Seen → Result Seen BlockRefusal = λ s. Ok s in
+          ap ok (seen-page bytes rule ∙ ap (λ n. seen_page n (items_of bytes)) lsn ∙ ap (seen_page rec.end.0) items)
+          ∙ image-left tested before
 
     -- a page that is there
     module _ (anew : is_anew block ≡ false) (left : is_left rec block ≡ false) (bytes : List ℕ) (rule : IsPage bytes) where

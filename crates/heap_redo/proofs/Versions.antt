@@ -1,11 +1,11 @@
 -- Tuples that go to several lines, and the bytes of a new version.
-use Rattle.std.proofs.Common.{arith, ap, sym, refl, ◌∙◌, ◌++◌, ◌∷◌, [], ◌+◌, ◌-◌, ◌≡◌, ◌≤◌, ◌<◌, inl, inr, min, get_or, ℕ, suc, List, length, take, drop, Ok, Err}
+use Rattle.std.proofs.Common.{arith, ap, sym, refl, ◌∙◌, ◌++◌, ◌∷◌, [], ◌+◌, ◌-◌, ◌≡◌, ◌≤◌, ◌<◌, inl, inr, min, get_or, ℕ, suc, List, length, take, drop, Result, Ok, Err}
 use Rattle.std.proofs.Math.Seq.{drop-cons, take-append-add}
 use Rattle.std.proofs.lemmas.Bool.{cases_lt}
-use Rattle.std.proofs.lemmas.List.{take_min, take_all, length-take, length-drop, get_or_default, take-append-le, take-take, drop_all}
+use Rattle.std.proofs.lemmas.List.{length-append, take_min, take_all, length-take, length-drop, get_or_default, take-append-le, take-take, drop_all}
 use Rattle.heap_page.specs.Item.{Item}
 use Rattle.wal_bodies.specs.declared.types.NewTuple.{NewTuple}
-use Rattle.heap_redo.specs.After.{BlockRefusal, put, put_listed, tuple_of, joined}
+use Rattle.heap_redo.specs.After.{BlockRefusal, ◌>>=◌, put, put_listed, tuple_of, joined}
 
 -- the end of a text, from where the first part ends on
 pub take-append_more : {X : Type 0} → (n : ℕ) (xs ys : List X) → length xs ≤ n → take n (xs ++ ys) ≡ xs ++ take (n - length xs) ys
@@ -31,7 +31,26 @@ drop-first xs k x h e =
     let next : suc k ≡ k + 1 = omega arith in
     drop-cons xs k x h ∙ ap (λ y. y ∷ drop (suc k) xs) (sym e) ∙ ap (λ n. x ∷ drop n xs) next
 
+then-same : (r : Result (List Item) BlockRefusal) → r ≡ (r >>= λ next. Ok next)
+then-same (Ok items) = refl
+then-same (Err refusal) = refl
+
 module _ (xid block : ℕ) where
+  -- one line
+  pub listed-empty : (line : ℕ) (tuples : List NewTuple) (items : List Item) → length tuples ≡ 0 → Ok items ≡ put_listed xid block (line ∷ []) tuples items
+  unfolding put_listed
+  listed-empty line [] items h = refl
+  listed-empty line (tuple ∷ tuples) items h = absurd (omega arith)
+
+  listed-single : (line : ℕ) (tuple : NewTuple) (tuples : List NewTuple) (items : List Item) → put line (tuple_of xid 0 block line tuple tuple.rest) items ≡ put_listed xid block (line ∷ []) (tuple ∷ tuples) items
+  unfolding put_listed
+  listed-single line tuple tuples items = then-same (put line (tuple_of xid 0 block line tuple tuple.rest) items)
+
+  pub listed-one : (line : ℕ) (tuple : NewTuple) (tuples : List NewTuple) (items : List Item) → 0 < length tuples → tuple ≡ get_or tuples 0 tuple → put line (tuple_of xid 0 block line tuple tuple.rest) items ≡ put_listed xid block (line ∷ []) tuples items
+  listed-one line tuple tuples items h e =
+      listed-single line tuple (drop 1 tuples) items
+      ∙ ap (λ ts. put_listed xid block (line ∷ []) ts items) (sym (drop-first tuples 0 tuple h e))
+
   listed-cons : (line : ℕ) (lines : List ℕ) (tuple : NewTuple) (tuples : List NewTuple) (items next : List Item) → put line (tuple_of xid 0 block line tuple tuple.rest) items ≡ Ok next → put_listed xid block (line ∷ lines) (tuple ∷ tuples) items ≡ put_listed xid block lines tuples next
   unfolding put_listed
   listed-cons line lines tuple tuples items next done = rw done refl
@@ -104,3 +123,27 @@ take_rest n xs = take_all (length xs - n) (drop n xs) (omega (arith, length-drop
 -- an element that was read
 pub read-at : {X : Type 0} → (xs : List X) (k : ℕ) (x d : X) → k < length xs → x ≡ get_or xs k x → x ≡ get_or xs k d
 read-at xs k x d h e = e ∙ get_or_default xs k x d h
+
+bound-of : (whole a b c d split own prefix suffix old : ℕ) → whole ≡ a + b + c + d → a ≡ min split own → b ≡ min prefix old → c ≡ own - split → d ≡ old - (old - suffix) → whole ≤ own + (prefix + suffix)
+bound-of whole a b c d split own prefix suffix old e ea eb ec ed = omega arith
+
+-- a new version that is short has its room in a short buffer
+length-joined : (tuple : NewTuple) (old : List ℕ) → length (joined tuple old) ≤ length tuple.rest + (tuple.prefix + tuple.suffix)
+unfolding joined
+length-joined tuple old =
+    let a : List ℕ = take (tuple.hoff - 23) tuple.rest in
+    let b : List ℕ = take tuple.prefix old in
+    let c : List ℕ = drop (tuple.hoff - 23) tuple.rest in
+    let d : List ℕ = drop (length old - tuple.suffix) old in
+    let la : length a ≡ min (tuple.hoff - 23) (length tuple.rest) = length-take (tuple.hoff - 23) tuple.rest in
+    let lb : length b ≡ min tuple.prefix (length old) = length-take tuple.prefix old in
+    let lc : length c ≡ length tuple.rest - (tuple.hoff - 23) = length-drop (tuple.hoff - 23) tuple.rest in
+    let ld : length d ≡ length old - (length old - tuple.suffix) = length-drop (length old - tuple.suffix) old in
+    let whole : length (a ++ b ++ c ++ d) ≡ length a + length b + length c + length d =
+    length-append (a ++ b ++ c) d ∙ ap (λ n. n + length d) (length-append (a ++ b) c ∙ ap (λ n. n + length c) (length-append a b)) in
+    bound-of (length (a ++ b ++ c ++ d)) (length a) (length b) (length c) (length d) (tuple.hoff - 23) (length tuple.rest) tuple.prefix tuple.suffix (length old) whole la lb lc ld
+
+pub short-room : (tuple : NewTuple) (old : List ℕ) (n : ℕ) → n ≡ 512 → length tuple.rest + (tuple.prefix + tuple.suffix) ≤ 512 → take n (joined tuple old) ≡ take 8192 (joined tuple old)
+short-room tuple old n e h =
+    let long = length-joined tuple old in
+    take_all n (joined tuple old) (omega (arith, e, h, long)) ∙ sym (take_all 8192 (joined tuple old) (omega (arith, h, long)))

@@ -9,13 +9,14 @@ use Rattle.heap_page.specs.Page.{is_page, lsn_of, items_of}
 use Rattle.page_store.specs.declared.pool.PoolFault.{PoolFault}
 use Rattle.page_store.specs.declared.pool.PoolFault.TheVariants.{Missing, BadPage}
 use Rattle.page_store.specs.Content.{Blocks, is_at, with_block, or_zeros, filled_below, page_answer}
+use Rattle.wal_record.specs.declared.new.NewImage.{NewImage}
 use Rattle.wal_bodies.specs.declared.types.Rec.{Rec}
 use Rattle.wal_bodies.specs.declared.types.RecBlock.{RecBlock}
-use Rattle.heap_redo.specs.After.{BlockRefusal}
+use Rattle.heap_redo.specs.After.{BlockRefusal, applied}
 use Rattle.heap_redo.specs.declared.fault.RedoFault.{RedoFault}
 use Rattle.heap_redo.specs.Refused.{pool_fault_at}
 use Rattle.heap_redo.specs.Redone.{Seen, bad_block, seen_page, seen, View, view_of, is_anew, is_left, redone_block, with_seen, or_zero_block, grown, view_with, view_by, view_outcome, Follows, fault_by, fault_outcome}
-use Rattle.heap_redo.proofs.OneBlock.{missing-refused, broken-refused}
+use Rattle.heap_redo.proofs.OneBlock.{missing-refused, broken-refused, image-anew, image-not_left}
 
 seen-cond : (v : Bool) (bytes : List ℕ) (block : Option (List ℕ)) → seen (cond v (Some bytes) block) ≡ cond v (seen (Some bytes)) (seen block)
 seen-cond true bytes block = refl
@@ -137,6 +138,10 @@ module _ (rec : Rec) (block : RecBlock) (view : View) (tag : Tag) where
       let ok : View → Result View RedoFault = λ v. Ok v in
       ap ok (e ∙ grows anew not_left (seen (Some bytes))) ∙ ap (view_by rec block view tag) h
 
+  -- a block was restored from its image
+  pub image-outcome : (image : NewImage) → applied block.image ≡ Some image → (next : View) (bytes : List ℕ) → next ≡ with_seen (grown view tag) tag (seen (Some bytes)) → (left : Result Seen BlockRefusal) → Ok (seen (Some bytes)) ≡ left → Ok next ≡ view_by rec block view tag left
+  image-outcome image restored = anew-outcome (image-anew rec block image restored) (image-not_left rec block image restored)
+
   -- a block is left
   pub left-outcome : is_left rec block ≡ true → (left : Result Seen BlockRefusal) → Ok (view tag.table tag.block) ≡ left → Ok view ≡ view_by rec block view tag left
   left-outcome is_left left h =
@@ -151,3 +156,6 @@ err-is {A} a b e = let err : RedoFault → Result A RedoFault = λ f. Err f in a
 pub followed : (view : View) (result : Result (Unit {0}) RedoFault) (given other : Result View RedoFault) → given ≡ other → Follows view result given → Follows view result other
 followed view result given other e (inl memory) = inl (memory.0, subst (λ (r : Result View RedoFault). IsOk r) e memory.1)
 followed view result given other e (inr same) = inr (same ∙ e)
+
+pub is_ok-by : (rec : Rec) (block : RecBlock) (view : View) (tag : Tag) (left : Seen) (given : Result Seen BlockRefusal) → Ok left ≡ given → IsOk (view_by rec block view tag given)
+is_ok-by rec block view tag left given e = subst (λ (r : Result Seen BlockRefusal). IsOk (view_by rec block view tag r)) e refl

@@ -1,29 +1,28 @@
-ghost use Rattle.std.specs.Prelude.{◌≡◌};
-ghost use Rattle.heap_page.specs.Page.{IsPage, items_of};
+ghost use Rattle.std.specs.Prelude.{◌≡◌, OnErr};
+ghost use Rattle.heap_page.specs.Page.{items_of};
 ghost use Rattle.heap_redo.specs.After.{changed};
 ghost use Rattle.heap_redo.specs.Refused.{outcome};
 
 use crate::fault::Refusal;
 use crate::line::{confirm, delete, lock, lock_updated};
 use crate::update::{Versions, update};
-use crate::version::put_listed;
-use heap_page::Page;
+use crate::version::{insert, put_listed};
+use heap_page::HeapPage;
 use wal_bodies::{Rec, RecBlock, RecKind};
 
-/// What a record changes in the page of a block, which has the page rule before and after. Where it is
-/// refused the page may be changed in part.
+/// What a record changes in the page of a block. Where it is refused the page stays as it is: what may
+/// be refused is tested before it writes, and only a multi-insert keeps the page, to put it back.
 #[tactic(auto, unfolding(crate::specs::After::changed))]
-pub fn change(page: &mut Page, rec: &Rec, block: &RecBlock) -> Result<(), Refusal>
-    requires { IsPage page.old }
+pub fn change(page: &mut HeapPage, rec: &Rec, block: &RecBlock) -> Result<(), Refusal>
     ensures answer { outcome (items_of page.new) result
         ≡ changed rec.now block.now rec.now.kind (items_of page.old) }
-    ensures page { IsPage page.new }
+    ensures err { OnErr result (page.new ≡ page.old) }
 {
     let number = block.block;
     let xid = rec.head.xid.0;
     let tuples = block.tuples.as_slice();
     match &rec.kind {
-        RecKind::Insert { line, .. } => put_listed(page, xid, number, &[*line], tuples),
+        RecKind::Insert { line, .. } => insert(page, xid, number, *line, tuples),
         RecKind::MultiInsert { lines, .. } => {
             put_listed(page, xid, number, lines.as_slice(), tuples)
         }

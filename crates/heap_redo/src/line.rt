@@ -1,36 +1,45 @@
-ghost use Rattle.std.specs.Prelude.{◌≡◌, ◌++◌, Err, IfOk, IfErr};
-ghost use Rattle.heap_page.specs.Item.{numbered, tuple_in};
-ghost use Rattle.heap_page.specs.Page.{IsPage, items_of};
+ghost use Rattle.std.specs.Prelude.{◌≡◌, ◌-◌, ◌++◌, Err, IfOk, IfErr, OnErr};
+ghost use Rattle.heap_page.specs.Item.{normal, with_item, numbered, tuple_in};
+ghost use Rattle.heap_page.specs.Page.{items_of};
 ghost use Rattle.heap_page.specs.Put.{set_head_answer};
-ghost use Rattle.heap_redo.specs.TupleHeads.{Head, head_of, head_bytes, marked, pointing_to, deleted, locked};
+ghost use Rattle.heap_redo.specs.TupleHeads.{Head, head_of, head_bytes, marked, pointing_to, deleted, replaced, locked};
 ghost use Rattle.heap_redo.specs.After.{answered, with_header, change_head, update_old, put};
-ghost use Rattle.heap_redo.specs.Heads.{head_in};
+ghost use Rattle.heap_redo.specs.Heads.{head_in, headed};
 ghost use Rattle.heap_redo.specs.Refused.{refusal_of, outcome};
 
 use crate::fault::{Refusal, at_line};
 use crate::head::Header;
-use heap_page::{Item, Page, item, put, set_head};
+use heap_page::{HeapPage, Item};
 
 /// The header of the tuple of a line, which is refused where it has none.
-fn header_at(page: &Page, line: u16) -> Result<Header, Refusal>
-    requires { IsPage page.now }
+fn header_at(page: &HeapPage, line: u16) -> Result<Header, Refusal>
     ensures ok { IfOk result (λ header. head_in header ≡ head_of (tuple_in (numbered (items_of page.now) line))) }
     ensures err { IfErr result (λ refusal. (change : Head → Head) → Err (refusal_of refusal) ≡ change_head line change (items_of page.now)) }
 {
-    match item(page, line) {
+    match page.item(line) {
         Item::Normal(bytes) => Ok(Header::read(bytes)),
         _ => Err(Refusal::NoTuple(line)),
     }
 }
 
+/// What `put_header` answers. It changes nothing.
+fn check_header(page: &HeapPage, line: u16, header: Header) -> Result<(), Refusal>
+    ensures { let head = head_bytes (head_in header) in outcome (with_header (items_of page.now) line head) result
+        ≡ answered line (with_header (items_of page.now) line head) (set_head_answer (items_of page.now) line head) }
+{
+    match page.check_head(line, &header.bytes()) {
+        Ok(()) => Ok(()),
+        Err(error) => Err(at_line(error, line)),
+    }
+}
+
 /// Gives the tuple of a line this header.
-fn put_header(page: &mut Page, line: u16, header: Header) -> Result<(), Refusal>
-    requires { IsPage page.old }
+fn put_header(page: &mut HeapPage, line: u16, header: Header) -> Result<(), Refusal>
     ensures answer { let head = head_bytes (head_in header) in outcome (items_of page.new) result
         ≡ answered line (with_header (items_of page.old) line head) (set_head_answer (items_of page.old) line head) }
-    ensures page { IsPage page.new }
+    ensures err { OnErr result (page.new ≡ page.old) }
 {
-    match set_head(page, line, &header.bytes()) {
+    match page.set_head(line, &header.bytes()) {
         Ok(()) => Ok(()),
         Err(error) => Err(at_line(error, line)),
     }
@@ -39,17 +48,16 @@ fn put_header(page: &mut Page, line: u16, header: Header) -> Result<(), Refusal>
 /// The tuple of a line is deleted.
 #[tactic(auto, unfolding(crate::specs::After::change_head))]
 pub fn delete(
-    page: &mut Page,
+    page: &mut HeapPage,
     block: u32,
     line: u16,
     xmax: u32,
     bits: u8,
     flags: u8,
 ) -> Result<(), Refusal>
-    requires { IsPage page.old }
     ensures answer { outcome (items_of page.new) result
         ≡ change_head line (λ head. deleted xmax bits flags block line head) (items_of page.old) }
-    ensures page { IsPage page.new }
+    ensures err { OnErr result (page.new ≡ page.old) }
 {
     let header = header_at(page, line)?;
     put_header(page, line, header.deleted(xmax, bits, flags, block, line))
@@ -58,7 +66,7 @@ pub fn delete(
 /// The tuple of a line points to a newer version at this place.
 #[tactic(auto, unfolding(crate::specs::After::change_head, crate::specs::After::update_old))]
 pub fn update_old(
-    page: &mut Page,
+    page: &mut HeapPage,
     line: u16,
     xmax: u32,
     bits: u8,
@@ -66,10 +74,9 @@ pub fn update_old(
     new_block: u32,
     new_line: u16,
 ) -> Result<(), Refusal>
-    requires { IsPage page.old }
     ensures answer { outcome (items_of page.new) result
         ≡ update_old is_hot xmax line bits new_block new_line (items_of page.old) }
-    ensures page { IsPage page.new }
+    ensures err { OnErr result (page.new ≡ page.old) }
 {
     let header = header_at(page, line)?;
     put_header(
@@ -79,13 +86,34 @@ pub fn update_old(
     )
 }
 
+/// What `update_old` answers. It changes nothing.
+#[tactic(auto, unfolding(crate::specs::After::change_head, crate::specs::After::update_old))]
+pub fn check_old(
+    page: &HeapPage,
+    line: u16,
+    xmax: u32,
+    bits: u8,
+    is_hot: bool,
+    new_block: u32,
+    new_line: u16,
+) -> Result<(), Refusal>
+    ensures { outcome (headed (items_of page.now) line (λ head. replaced xmax bits is_hot new_block new_line head)) result
+        ≡ update_old is_hot xmax line bits new_block new_line (items_of page.now) }
+{
+    let header = header_at(page, line)?;
+    check_header(
+        page,
+        line,
+        header.replaced(xmax, bits, is_hot, new_block, new_line),
+    )
+}
+
 /// The tuple of a line is inserted for good.
 #[tactic(auto, unfolding(crate::specs::After::change_head))]
-pub fn confirm(page: &mut Page, block: u32, line: u16) -> Result<(), Refusal>
-    requires { IsPage page.old }
+pub fn confirm(page: &mut HeapPage, block: u32, line: u16) -> Result<(), Refusal>
     ensures answer { outcome (items_of page.new) result
         ≡ change_head line (λ head. pointing_to block line head) (items_of page.old) }
-    ensures page { IsPage page.new }
+    ensures err { OnErr result (page.new ≡ page.old) }
 {
     let header = header_at(page, line)?;
     put_header(page, line, header.pointing_to(block, line))
@@ -93,11 +121,10 @@ pub fn confirm(page: &mut Page, block: u32, line: u16) -> Result<(), Refusal>
 
 /// The tuple of a line is locked.
 #[tactic(auto, unfolding(crate::specs::After::change_head))]
-pub fn lock(page: &mut Page, block: u32, line: u16, xmax: u32, bits: u8) -> Result<(), Refusal>
-    requires { IsPage page.old }
+pub fn lock(page: &mut HeapPage, block: u32, line: u16, xmax: u32, bits: u8) -> Result<(), Refusal>
     ensures answer { outcome (items_of page.new) result
         ≡ change_head line (λ head. locked xmax bits block line head) (items_of page.old) }
-    ensures page { IsPage page.new }
+    ensures err { OnErr result (page.new ≡ page.old) }
 {
     let header = header_at(page, line)?;
     put_header(page, line, header.locked(xmax, bits, block, line))
@@ -105,11 +132,10 @@ pub fn lock(page: &mut Page, block: u32, line: u16, xmax: u32, bits: u8) -> Resu
 
 /// The tuple of a line, which has a newer version, is locked.
 #[tactic(auto, unfolding(crate::specs::After::change_head))]
-pub fn lock_updated(page: &mut Page, line: u16, xmax: u32, bits: u8) -> Result<(), Refusal>
-    requires { IsPage page.old }
+pub fn lock_updated(page: &mut HeapPage, line: u16, xmax: u32, bits: u8) -> Result<(), Refusal>
     ensures answer { outcome (items_of page.new) result
         ≡ change_head line (λ head. marked xmax bits head) (items_of page.old) }
-    ensures page { IsPage page.new }
+    ensures err { OnErr result (page.new ≡ page.old) }
 {
     let header = header_at(page, line)?;
     put_header(page, line, header.marked(xmax, bits))
@@ -117,13 +143,24 @@ pub fn lock_updated(page: &mut Page, line: u16, xmax: u32, bits: u8) -> Result<(
 
 /// A tuple of this header and these bytes behind it goes to a free line.
 #[tactic(auto, unfolding(crate::specs::After::put))]
-pub fn put_tuple(page: &mut Page, line: u16, header: Header, rest: &[u8]) -> Result<(), Refusal>
-    requires { IsPage page.old }
+pub fn put_tuple(page: &mut HeapPage, line: u16, header: Header, rest: &[u8]) -> Result<(), Refusal>
     ensures answer { outcome (items_of page.new) result
         ≡ put line (head_bytes (head_in header) ++ rest.now) (items_of page.old) }
-    ensures page { IsPage page.new }
+    ensures err { OnErr result (page.new ≡ page.old) }
 {
-    match put(page, line, &header.bytes(), rest) {
+    match page.put(line, &header.bytes(), rest) {
+        Ok(()) => Ok(()),
+        Err(error) => Err(at_line(error, line)),
+    }
+}
+
+/// What `put_tuple` answers. It changes nothing.
+#[tactic(auto, unfolding(crate::specs::After::put))]
+pub fn check_tuple(page: &HeapPage, line: u16, header: Header, rest: &[u8]) -> Result<(), Refusal>
+    ensures { let tuple = head_bytes (head_in header) ++ rest.now in
+        outcome (with_item (items_of page.now) (line - 1) (normal tuple)) result ≡ put line tuple (items_of page.now) }
+{
+    match page.check_put(line, &header.bytes(), rest) {
         Ok(()) => Ok(()),
         Err(error) => Err(at_line(error, line)),
     }

@@ -1,14 +1,15 @@
-ghost use Rattle.std.specs.Prelude.{◌≡◌, ◌<◌, ◌≤◌, ◌^◌, true, false, length, Some, Err, IfSome, OnErr};
-ghost use Rattle.heap_page.specs.Page.{IsPage};
+ghost use Rattle.std.specs.Prelude.{◌≡◌, ◌<◌, ◌≤◌, ◌^◌, true, false, length, None, Some, Err, IfSome, OnErr};
 ghost use Rattle.page_store.specs.Content.{content, table_count};
+ghost use Rattle.heap_redo.specs.After.{applied};
 ghost use Rattle.heap_redo.specs.Redone.{seen, view_of, fault_by, fault_outcome, is_anew, is_left, redone_block, view_by, table_of, redone_at, view_outcome, Follows, Stands};
 
 use crate::block::{anew, changed, is_anew, is_left};
 use crate::fault::{RedoFault, Refusal, fault_at, pool_fault};
-use heap_page::Page;
+use heap_page::{HeapPage, shows_page};
 use page_store::Pool;
 use pg_types::{Locator, Tag};
 use wal_bodies::{Rec, RecBlock};
+use wal_record::{ImageView, NewImage};
 
 /// The number of the table that has this file.
 fn table_of(known: &[Locator], locator: Locator) -> Option<usize>
@@ -19,8 +20,7 @@ fn table_of(known: &[Locator], locator: Locator) -> Option<usize>
 }
 
 /// Changes the page of a block, or answers why not.
-fn change_page(page: &mut Page, rec: &Rec, block: &RecBlock) -> Result<(), RedoFault>
-    requires page { IsPage page.old }
+fn change_page(page: &mut HeapPage, rec: &Rec, block: &RecBlock) -> Result<(), RedoFault>
     requires anew { is_anew block.now ≡ false }
     requires left { is_left rec.now block.now ≡ false }
     requires block { block.now.block < 4294967295 }
@@ -51,7 +51,69 @@ fn change(pool: &mut Pool, tag: Tag, rec: &Rec, block: &RecBlock) -> Result<(), 
     }
 }
 
-/// Makes a block anew, whatever stands there.
+/// Makes a block the page that its image shows, whatever stands there: in place, since the image is
+/// tested before.
+fn restore(
+    pool: &mut Pool,
+    tag: Tag,
+    rec: &Rec,
+    block: &RecBlock,
+    image: &NewImage,
+) -> Result<(), RedoFault>
+    requires table { tag.table < table_count pool.old }
+    requires tag { tag.block ≡ block.now.block }
+    requires image { applied block.now.image ≡ Some image.now }
+    requires block { block.now.block < 4294967295 }
+    ensures answer { Follows (view_of (content pool.new)) result
+        (view_by rec.now block.now (view_of (content pool.old)) tag (redone_block rec.now block.now (seen (content pool.old tag.table tag.block)))) }
+    ensures err { OnErr result (content pool.new ≡ content pool.old) }
+    ensures tables { table_count pool.new ≡ table_count pool.old }
+{
+    let view = ImageView {
+        apply: image.apply,
+        hole_at: image.hole_at,
+        bytes: image.bytes.as_slice(),
+    };
+    if !shows_page(&view) {
+        return Err(fault_at(rec, block, Refusal::BadPage));
+    }
+    match pool.fresh(tag) {
+        Ok(page) => {
+            page.restore(&view);
+            page.set_lsn(rec.end);
+            Ok(())
+        }
+        Err(fault) => Err(pool_fault(rec, block, fault)),
+    }
+}
+
+/// Makes a block anew by the record's change of a page without items, whatever stands there.
+fn rebuild(pool: &mut Pool, tag: Tag, rec: &Rec, block: &RecBlock) -> Result<(), RedoFault>
+    requires table { tag.table < table_count pool.old }
+    requires tag { tag.block ≡ block.now.block }
+    requires plain { applied block.now.image ≡ None }
+    requires anew { is_anew block.now ≡ true }
+    requires left { is_left rec.now block.now ≡ false }
+    requires block { block.now.block < 4294967295 }
+    ensures answer { Follows (view_of (content pool.new)) result
+        (view_by rec.now block.now (view_of (content pool.old)) tag (redone_block rec.now block.now (seen (content pool.old tag.table tag.block)))) }
+    ensures err { OnErr result (content pool.new ≡ content pool.old) }
+    ensures tables { table_count pool.new ≡ table_count pool.old }
+{
+    let mut page = HeapPage::new();
+    if let Err(refusal) = anew(&mut page, rec, block) {
+        return Err(fault_at(rec, block, refusal));
+    }
+    match pool.fresh(tag) {
+        Ok(fresh) => {
+            *fresh = page;
+            Ok(())
+        }
+        Err(fault) => Err(pool_fault(rec, block, fault)),
+    }
+}
+
+/// Makes a block anew, whatever stands there: as its image shows, if one is restored.
 fn remake(pool: &mut Pool, tag: Tag, rec: &Rec, block: &RecBlock) -> Result<(), RedoFault>
     requires table { tag.table < table_count pool.old }
     requires tag { tag.block ≡ block.now.block }
@@ -63,17 +125,12 @@ fn remake(pool: &mut Pool, tag: Tag, rec: &Rec, block: &RecBlock) -> Result<(), 
     ensures err { OnErr result (content pool.new ≡ content pool.old) }
     ensures tables { table_count pool.new ≡ table_count pool.old }
 {
-    let mut page = [0; 8192];
-    if let Err(refusal) = anew(&mut page, rec, block) {
-        return Err(fault_at(rec, block, refusal));
-    }
-    match pool.fresh(tag) {
-        Ok(fresh) => {
-            *fresh = page;
-            Ok(())
+    if let Some(image) = &block.image {
+        if image.apply {
+            return restore(pool, tag, rec, block, image);
         }
-        Err(fault) => Err(pool_fault(rec, block, fault)),
     }
+    rebuild(pool, tag, rec, block)
 }
 
 /// One block of a record. A block of another table is passed over.

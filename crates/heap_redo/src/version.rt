@@ -1,32 +1,23 @@
-ghost use Rattle.std.specs.Prelude.{◌≡◌, ◌+◌, ◌≤◌, ◌<◌, ◌++◌, take, length};
-ghost use Rattle.heap_page.specs.Item.{numbered, tuple_in};
-ghost use Rattle.heap_page.specs.Page.{IsPage, items_of};
+ghost use Rattle.std.specs.Prelude.{◌≡◌, ◌+◌, ◌-◌, ◌≤◌, ◌<◌, ◌++◌, ◌∷◌, ℕ, [], List, OnErr, take, length};
+ghost use Rattle.heap_page.specs.Item.{normal, with_item, numbered, tuple_in};
+ghost use Rattle.heap_page.specs.Page.{items_of};
 ghost use Rattle.heap_redo.specs.After.{put, put_listed, tuple_of, user_data, joined};
+ghost use Rattle.heap_redo.specs.Heads.{head_in};
 ghost use Rattle.heap_redo.specs.Refused.{outcome};
+ghost use Rattle.heap_redo.specs.TupleHeads.{head_bytes};
 
 use crate::fault::Refusal;
 use crate::head::Header;
-use crate::line::{put_tuple, update_old};
-use heap_page::{Item, Page, item};
+use crate::line::{check_tuple, put_tuple};
+use heap_page::{HeapPage, Item};
 use wal_bodies::NewTuple;
 
-/// A tuple that this transaction puts at this place, with this xmax and these bytes behind its header.
+/// The header of a tuple that this transaction puts at this place, with this xmax.
 #[tactic(auto, unfolding(crate::specs::After::tuple_of))]
-pub fn put_new(
-    page: &mut Page,
-    xid: u64,
-    xmax: u32,
-    block: u32,
-    line: u16,
-    tuple: &NewTuple,
-    rest: &[u8],
-) -> Result<(), Refusal>
-    requires { IsPage page.old }
-    ensures answer { outcome (items_of page.new) result
-        ≡ put line (tuple_of xid xmax block line tuple.now rest.now) (items_of page.old) }
-    ensures page { IsPage page.new }
+fn new_header(xid: u64, xmax: u32, block: u32, line: u16, tuple: &NewTuple) -> Header
+    ensures { (rest : List ℕ) → head_bytes (head_in result) ++ rest ≡ tuple_of xid xmax block line tuple.now rest }
 {
-    let header = Header {
+    Header {
         xmin: xid,
         xmax,
         cid: 0,
@@ -35,22 +26,71 @@ pub fn put_new(
         mask2: tuple.mask2,
         mask: tuple.mask,
         hoff: tuple.hoff,
-    };
-    put_tuple(page, line, header, rest)
+    }
 }
 
-/// Tuples go to these lines, one after the other.
-pub fn put_listed(
-    page: &mut Page,
+/// A tuple that this transaction puts at this place, with this xmax and these bytes behind its header.
+pub fn put_new(
+    page: &mut HeapPage,
+    xid: u64,
+    xmax: u32,
+    block: u32,
+    line: u16,
+    tuple: &NewTuple,
+    rest: &[u8],
+) -> Result<(), Refusal>
+    ensures answer { outcome (items_of page.new) result
+        ≡ put line (tuple_of xid xmax block line tuple.now rest.now) (items_of page.old) }
+    ensures err { OnErr result (page.new ≡ page.old) }
+{
+    put_tuple(page, line, new_header(xid, xmax, block, line, tuple), rest)
+}
+
+/// What `put_new` answers. It changes nothing.
+pub fn check_new(
+    page: &HeapPage,
+    xid: u64,
+    xmax: u32,
+    block: u32,
+    line: u16,
+    tuple: &NewTuple,
+    rest: &[u8],
+) -> Result<(), Refusal>
+    ensures { let new = tuple_of xid xmax block line tuple.now rest.now in
+        outcome (with_item (items_of page.now) (line - 1) (normal new)) result ≡ put line new (items_of page.now) }
+{
+    check_tuple(page, line, new_header(xid, xmax, block, line, tuple), rest)
+}
+
+/// The tuple of an insert, if the record has it, goes to its line.
+pub fn insert(
+    page: &mut HeapPage,
+    xid: u64,
+    block: u32,
+    line: u16,
+    tuples: &[NewTuple],
+) -> Result<(), Refusal>
+    ensures answer { outcome (items_of page.new) result
+        ≡ put_listed xid block (line ∷ []) tuples.now (items_of page.old) }
+    ensures err { OnErr result (page.new ≡ page.old) }
+{
+    if tuples.is_empty() {
+        return Ok(());
+    }
+    let tuple = &tuples[0];
+    put_new(page, xid, 0, block, line, tuple, tuple.rest.as_slice())
+}
+
+/// Tuples go to these lines, one after the other. A refused page has those before the refused one.
+fn put_each(
+    page: &mut HeapPage,
     xid: u64,
     block: u32,
     lines: &[u16],
     tuples: &[NewTuple],
 ) -> Result<(), Refusal>
-    requires { IsPage page.old }
-    ensures answer { outcome (items_of page.new) result
+    ensures { outcome (items_of page.new) result
         ≡ put_listed xid block lines.now tuples.now (items_of page.old) }
-    ensures page { IsPage page.new }
 {
     let count = lines.len().min(tuples.len());
     for k in 0..count {
@@ -60,23 +100,48 @@ pub fn put_listed(
     Ok(())
 }
 
-/// Puts as much of a part as fits behind the first `at` bytes.
-fn append(bytes: &mut [u8; 8192], at: usize, part: &[u8]) -> usize
-    requires { at ≤ 8192 }
-    ensures taken { take result bytes.new ≡ take 8192 (take at bytes.old ++ part.now) }
-    ensures within { result ≤ 8192 }
+/// Tuples go to these lines, one after the other. Since a later one may be refused, the page is kept, to
+/// be put back.
+pub fn put_listed(
+    page: &mut HeapPage,
+    xid: u64,
+    block: u32,
+    lines: &[u16],
+    tuples: &[NewTuple],
+) -> Result<(), Refusal>
+    ensures answer { outcome (items_of page.new) result
+        ≡ put_listed xid block lines.now tuples.now (items_of page.old) }
+    ensures err { OnErr result (page.new ≡ page.old) }
 {
-    let len = part.len().min(8192 - at);
+    let before = *page;
+    match put_each(page, xid, block, lines, tuples) {
+        Ok(()) => Ok(()),
+        Err(refusal) => {
+            *page = before;
+            Err(refusal)
+        }
+    }
+}
+
+/// Puts as much of a part as fits behind the first `at` bytes.
+fn append(bytes: &mut [u8], at: usize, part: &[u8]) -> usize
+    requires { at ≤ length bytes.old }
+    ensures taken { take result bytes.new ≡ take (length bytes.old) (take at bytes.old ++ part.now) }
+    ensures within { result ≤ length bytes.old }
+    ensures length { length bytes.new ≡ length bytes.old }
+{
+    let len = part.len().min(bytes.len() - at);
     bytes[at..at + len].copy_from_slice(&part[..len]);
     at + len
 }
 
-/// What stands behind the header of a new version of a tuple with these values, as far as a page goes.
+/// What stands behind the header of a new version of a tuple with these values, as far as it fits.
 #[tactic(auto, unfolding(crate::specs::After::joined))]
-pub fn join(bytes: &mut [u8; 8192], tuple: &NewTuple, old: &[u8]) -> usize
+pub fn join(bytes: &mut [u8], tuple: &NewTuple, old: &[u8]) -> usize
     requires { tuple.now.prefix + tuple.now.suffix ≤ length old.now }
-    ensures taken { take result bytes.new ≡ take 8192 (joined tuple.now old.now) }
-    ensures within { result ≤ 8192 }
+    ensures taken { take result bytes.new ≡ take (length bytes.old) (joined tuple.now old.now) }
+    ensures within { result ≤ length bytes.old }
+    ensures length { length bytes.new ≡ length bytes.old }
     ensures small { tuple.now.hoff < 256 }
 {
     let own = tuple.rest.as_slice();
@@ -88,11 +153,10 @@ pub fn join(bytes: &mut [u8; 8192], tuple: &NewTuple, old: &[u8]) -> usize
 }
 
 /// The values of the tuple of a line, none where it has none.
-pub fn user_data(page: &Page, line: u16) -> &[u8]
-    requires { IsPage page.now }
+pub fn user_data(page: &HeapPage, line: u16) -> &[u8]
     ensures { result.now ≡ user_data (tuple_in (numbered (items_of page.now) line)) }
 {
-    match item(page, line) {
+    match page.item(line) {
         Item::Normal(bytes) => &bytes[bytes[22] as usize..],
         _ => &[],
     }

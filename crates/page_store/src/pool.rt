@@ -3,7 +3,7 @@ ghost use Rattle.std.specs.Borrow.{sem};
 ghost use Rattle.heap_page.specs.Page.{IsPage};
 
 use crate::table::Table;
-use heap_page::{Page, check, init};
+use heap_page::HeapPage;
 use pg_types::{NoMemory, Tag};
 use std::alloc::{AllocError, Global};
 use thiserror::Error;
@@ -70,16 +70,15 @@ impl Pool {
         if tag.block == 4_294_967_295 || table.pages.len() <= block {
             return Err(PoolFault::Missing);
         }
-        if !check(&table.pages[block]) {
-            return Err(PoolFault::BadPage);
-        }
+        table.pages[block].keeps_rule();
         Ok(())
     }
 
     /// Lends the page of a block for a change of it. `Missing` comes exactly where the table does not
-    /// have the block, `BadPage` exactly where its bytes break the page rule. It takes no memory.
+    /// have the block; `BadPage` would come where its bytes break the page rule, which those of a block
+    /// in memory never do. It takes no memory.
     #[tactic(auto, unfolding(crate::specs::Content::table_count))]
-    pub fn page(&mut self, tag: Tag) -> Result<&mut Page, PoolFault>
+    pub fn page(&mut self, tag: Tag) -> Result<&mut HeapPage, PoolFault>
         requires { tag.table < table_count self.old }
         ensures* lends { sem 𝓛 (LendsPage self.entry tag result) }
         ensures answer { lent result ≡ page_answer (content self.old tag.table tag.block) }
@@ -95,7 +94,7 @@ impl Pool {
 
     /// Lends the page of a block for reading, and answers as `page` does.
     #[tactic(auto, unfolding(crate::specs::Content::table_count))]
-    pub fn look(&mut self, tag: Tag) -> Result<&Page, PoolFault>
+    pub fn look(&mut self, tag: Tag) -> Result<&HeapPage, PoolFault>
         requires { tag.table < table_count self.old }
         ensures* lends { sem 𝓛 (LendsLook self.entry) }
         ensures answer { seen result ≡ page_answer (content self.old tag.table tag.block) }
@@ -125,7 +124,7 @@ impl Pool {
     /// Lends the block as a page without items and of position 0, whatever stood there. A table that
     /// does not reach so far is extended: the blocks between are zeros.
     #[tactic(auto, unfolding(crate::specs::Content::table_count))]
-    pub fn fresh(&mut self, tag: Tag) -> Result<&mut Page, PoolFault>
+    pub fn fresh(&mut self, tag: Tag) -> Result<&mut HeapPage, PoolFault>
         requires table { tag.table < table_count self.old }
         requires block { tag.block < 4294967295 }
         ensures* lends { sem 𝓛 (LendsFresh self.entry tag result) }

@@ -1,13 +1,13 @@
 ghost use Rattle.std.specs.Prelude.{◌≡◌, ◌<◌, Some, slice_get, vec_len, length, OnOk, OnErr};
 ghost use Rattle.std.specs.Borrow.{sem};
 
-use heap_page::{Page, init};
+use heap_page::HeapPage;
 use std::alloc::{AllocError, Global};
 
 /// The blocks of one table, by number from 0.
 #[derive(Drop)]
 pub struct Table {
-    pub pages: Vec<[u8; 8192]>,
+    pub pages: Vec<HeapPage>,
 }
 
 impl Table {
@@ -25,7 +25,7 @@ impl Table {
     }
 
     /// Lends a block.
-    pub fn block_mut(&mut self, block: usize) -> &mut Page
+    pub fn block_mut(&mut self, block: usize) -> &mut HeapPage
         requires { block < vec_len self.old.pages }
         ensures* lends { sem 𝓛 (LendsBlock self.entry block result) }
         ensures value { slice_get self.old.pages.items block ≡ Some result.now }
@@ -34,13 +34,12 @@ impl Table {
     }
 
     /// Adds blocks of zeros until the table has this many.
-    #[tactic(auto, unfolding(crate::specs::Content::zeros))]
     pub fn extend(&mut self, blocks: usize) -> Result<(), AllocError>
         ensures ok { OnOk result (self.new.pages.items ≡ extended self.old.pages.items blocks) }
         ensures err { OnErr result (self.new.pages.items ≡ self.old.pages.items) }
     {
         if self.pages.len() < blocks {
-            self.pages.resize(blocks, [0; 8192])?;
+            self.pages.resize(blocks, HeapPage::zeros())?;
         }
         Ok(())
     }
@@ -52,7 +51,7 @@ impl Table {
         ensures err { OnErr result (self.new.pages.items ≡ self.old.pages.items) }
     {
         self.extend(block + 1)?;
-        init(&mut self.pages[block]);
+        self.pages[block].init();
         Ok(())
     }
 }

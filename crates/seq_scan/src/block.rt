@@ -1,5 +1,5 @@
 ghost use Rattle.std.specs.Prelude.{◌≡◌, ◌≢◌, ◌<◌, IfOk, OnOk, OnErr};
-ghost use Rattle.heap_page.specs.Page.{IsPage, items_of};
+ghost use Rattle.heap_page.specs.Page.{items_of};
 ghost use Rattle.page_store.specs.Content.{content, table_count};
 ghost use Rattle.heap_redo.specs.Redone.{seen};
 ghost use Rattle.standby_snapshot.specs.Snapshot.{in_numbers, no_parents};
@@ -9,7 +9,7 @@ ghost use Rattle.seq_scan.specs.Meaning.{meaning, seen_by};
 
 use crate::line::{Found, read_line};
 use crate::rows::{BlockEnd, BlockRows, Rows};
-use heap_page::{Page, lines};
+use heap_page::HeapPage;
 use heap_tuple::Column;
 use page_store::{Pool, PoolFault};
 use pg_types::{NoMemory, Tag};
@@ -20,17 +20,16 @@ use tuple_visibility::Statuses;
 /// Reads the rows of a page.
 fn read_page<S: Statuses>(
     alloc: Global,
-    page: &Page,
+    page: &HeapPage,
     columns: &[Column],
     snapshot: &Snapshot,
     statuses: &S,
 ) -> Result<BlockRows, NoMemory>
-    requires { IsPage page.now }
     ensures { let sees = seen_by (in_numbers snapshot.now) (S.status_of statuses.now) (S.updater_of statuses.now) in
         IfOk result (λ block. meaning block ≡ rows_from columns.now sees 1 (items_of page.now)) }
 {
     let mut rows = Rows::new(alloc);
-    for k in 0..lines(page) {
+    for k in 0..page.lines() {
         match read_line(alloc, page, k + 1, columns, snapshot, statuses)? {
             Found::Nothing => {}
             Found::Row(row) => rows.push(row)?,

@@ -2,13 +2,13 @@ ghost use Rattle.std.specs.Prelude.{◌≡◌, IfOk};
 ghost use Rattle.heap_tuple.specs.Tuple.{IsTuple};
 ghost use Rattle.heap_tuple.specs.Values.{row_of};
 ghost use Rattle.heap_page.specs.Item.{numbered};
-ghost use Rattle.heap_page.specs.Page.{IsPage, items_of};
+ghost use Rattle.heap_page.specs.Page.{items_of};
 ghost use Rattle.standby_snapshot.specs.Snapshot.{in_numbers};
 ghost use Rattle.seq_scan.specs.BlockRows.{BlockRows, with_values, with_tuple};
 ghost use Rattle.seq_scan.specs.Meaning.{before, seen_by, with_item};
 
 use crate::rows::BlockEnd;
-use heap_page::{Item, Page, item};
+use heap_page::{HeapPage, Item};
 use heap_tuple::{Column, Row, RowFault, TupleView};
 use pg_types::NoMemory;
 use standby_snapshot::Snapshot;
@@ -69,17 +69,16 @@ fn read_tuple<S: Statuses>(
 /// What a line gives, numbered from 1. A line without a tuple gives nothing.
 pub fn read_line<S: Statuses>(
     alloc: Global,
-    page: &Page,
+    page: &HeapPage,
     line: u16,
     columns: &[Column],
     snapshot: &Snapshot,
     statuses: &S,
 ) -> Result<Found, NoMemory>
-    requires { IsPage page.now }
     ensures { let sees = seen_by (in_numbers snapshot.now) (S.status_of statuses.now) (S.updater_of statuses.now) in
         IfOk result (λ found. (rest : BlockRows) → before found rest ≡ with_item columns.now sees line (numbered (items_of page.now) line) rest) }
 {
-    match item(page, line) {
+    match page.item(line) {
         Item::Normal(bytes) => read_tuple(alloc, bytes, line, columns, snapshot, statuses),
         _ => Ok(Found::Nothing),
     }

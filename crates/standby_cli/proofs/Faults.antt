@@ -1,7 +1,7 @@
 -- The line of a fault after a front of an answer's text.
 use Rattle.std.proofs.Common.{ℕ, ◌≤◌, ◌⊎◌, inl, inr, List, [], ◌++◌, Option, Some, None, IfSome, refl, subst, arith}
 use Rattle.outside.specs.Faults.{Rose}
-use Rattle.outside.specs.Sink.{Appends, AppendsPrefix}
+use Rattle.outside.specs.Sink.{Appends}
 use Rattle.standby_cli.specs.Outcome.{AppendsLines, AppendsUnless, CutsOff, IsFront}
 use Rattle.standby_cli.specs.Front.{IsFrontOfAnswer}
 use Rattle.standby_cli.proofs.Appending.{appends_both, appends_prefix}

@@ -213,7 +213,7 @@ record_replays_some old between new reader start end result others replays =
     let made : Record → Entry = λ r. record { start = start.0; end = end.0; record_ = r } in (
       Ok (made replays.found),
       replays_moved old new between.kept (typed_of (described_to old) (Ok (made replays.found))) result
-      (subst (λ node. Replays result node new (typed_of (described_to node) (Ok (made replays.found)))) others replays.replays),
+          (subst (λ node. Replays result node new (typed_of (described_to node) (Ok (made replays.found)))) others replays.replays),
     )
 
 pub end_replays_some : (old new : Standby) (lsn : Lsn) (why : EndWhy) → new ≡ record old { kept = new.kept } → BearsPosition old.at (Ok (next.AtEnd lsn why))

@@ -4,4 +4,4 @@ use Rattle.heap_page.proofs.image.assemble.Goals as goal
 
 pub returns : goal.returns
 returns c =
-    assembled c.zero_out.new.page c.write_bytes.new.page c.write_bytes-2.new.page c.args.first.now c.args.rest.now (omega arith) c.zero_out.ensures c.requires c.write_bytes.ensures c.write_bytes-2.ensures
+    assembled c.args.page.now c.write_bytes.new.page c.write_zeros.new.page c.write_bytes-2.new.page c.args.first.now c.args.rest.now (omega arith) c.requires c.write_bytes.ensures c.write_zeros.ensures c.write_bytes-2.ensures

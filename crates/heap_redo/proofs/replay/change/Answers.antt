@@ -1,8 +1,6 @@
-use Rattle.std.proofs.Common.{ap, sym, ◌∙◌, ◌≡◌, inl, inr, Some, is_ok}
+use Rattle.std.proofs.Common.{ap, sym, ◌∙◌, ◌≡◌, Some, is_ok}
 use Rattle.std.proofs.lemmas.Result.{on_err_weaker}
 use Rattle.page_store.specs.Content.{content, with_block}
-use Rattle.page_store.specs.declared.pool.PoolFault.TheVariants.{Memory as NoRoom}
-use Rattle.heap_redo.specs.declared.fault.RedoFault.TheVariants.{Memory}
 use Rattle.heap_redo.specs.Refused.{pool_fault_at}
 use Rattle.heap_redo.specs.Redone.{view_of, redone_block, seen, fault_by}
 use Rattle.heap_redo.proofs.OneBlock.{below-last}

@@ -1,4 +1,4 @@
-use Rattle.std.proofs.Common.{ap, sym, ◌∙◌, inl, inr}
+use Rattle.std.proofs.Common.{ap, sym, ◌∙◌, inr}
 use Rattle.pg_types.specs.declared.names.Tag.{Tag}
 use Rattle.heap_redo.specs.After.{no_page}
 use Rattle.heap_redo.specs.Refused.{fault_at}

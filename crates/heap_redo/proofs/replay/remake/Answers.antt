@@ -1,17 +1,14 @@
-use Rattle.std.proofs.Common.{ap, ◌∙◌, inr, Some, is_ok}
-use Rattle.page_store.specs.Content.{content, filled_below}
-use Rattle.heap_redo.specs.Redone.{view_of, redone_block, seen, with_seen}
-use Rattle.heap_redo.proofs.Views.{view-with_block, view-filled, anew-outcome}
+use Rattle.heap_redo.proofs.OneBlock.{no_image, unapplied, restored-image}
 use Rattle.heap_redo.proofs.replay.remake.Goals as goal
+use Rattle.heap_redo.proofs.replay.remake.Goals.{in-Some+else-image, in_default}
 
-pub returns-in-Ok-clause-answer : goal.returns-in-Ok-clause-answer
-returns-in-Ok-clause-answer c =
-    let rec = c.args.rec.now in
-    let block = c.args.block.now in
-    let tag = c.args.tag in
-    let blocks = content c.args.pool.now in
-    let bytes = c.anew.new.page in
-    let held = (c.fresh.follows.holds bytes (ap is_ok c.in-Ok.is)).blocks in
-    inr (anew-outcome rec block (view_of blocks) tag c.requires.anew c.requires.left (view_of (content (c.fresh.follows.lender bytes))) bytes
-    (ap view_of held ∙ view-with_block (filled_below blocks tag) tag bytes ∙ ap (λ view. with_seen view tag (seen (Some bytes))) (view-filled blocks tag))
-    (redone_block rec block (seen (blocks tag.table tag.block))) (c.in_default.ensures.answer (seen (blocks tag.table tag.block))))
+pub restore-requires-clause-image : goal.restore-requires-clause-image
+restore-requires-clause-image c =
+    restored-image c.args.block.now.image c.in-Some.image c.in-Some.is c.if-image.true
+
+pub rebuild-requires-clause-plain : goal.rebuild-requires-clause-plain
+rebuild-requires-clause-plain c =
+    elim c.match-block.branch [
+      | in-Some+else-image w ↦ unapplied c.args.block.now.image w.in-Some.image w.in-Some.is w.if-image.false
+      | in_default w ↦ no_image c.args.block.now.image w.in_default.not-Some
+    ]

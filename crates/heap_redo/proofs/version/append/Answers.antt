@@ -12,7 +12,7 @@ returns-clause-taken c =
     let len = c.min-len.result in
     let put = c.copy_from_slice.new.self in
     let same = c.copy_from_slice.ensures.after in
-    let fits : len ≡ min (length part) (8192 - at) = c.min-len.ensures in
-    take-put_mid at (at + len - at) bytes put (at + len) (omega (arith, ap length same, length-take-le len part (omega arith))) (omega (arith, c.told-bytes))
+    let fits : len ≡ min (length part) (length bytes - at) = c.min-len.ensures in
+    take-put_mid at (at + len - at) bytes put (at + len) (omega (arith, ap length same, length-take-le len part (omega arith))) (omega arith)
     ∙ ap (λ l. take at bytes ++ l) (same ∙ ap (λ n. take n part) fits)
-    ∙ appended at 8192 (take at bytes) part (length-take-le at bytes (omega (arith, c.told-bytes))) (omega arith)
+    ∙ appended at (length bytes) (take at bytes) part (length-take-le at bytes (omega arith)) (omega arith)

@@ -1,4 +1,4 @@
-use Rattle.std.proofs.Common.{◌≡◌, ℕ, refl, ap, subst, ◌∙◌, arith}
+use Rattle.std.proofs.Common.{◌≡◌, ℕ, refl, ap, subst, ◌∙◌}
 use Rattle.wal_archive.specs.ArchiveLog.{archived_bytes}
 use Rattle.standby_core.specs.View.{standby}
 use Rattle.standby_model.specs.Archived.{segment_size}

@@ -1,4 +1,4 @@
-use Rattle.std.proofs.Common.{◌≡◌, ◌⊎◌, ◌∙◌, inl, inr, sym, ap, map}
+use Rattle.std.proofs.Common.{◌≡◌, ◌⊎◌, ◌∙◌, inl, inr, sym, map}
 use Rattle.std.specs.Prelude.{codes, string_bytes}
 use Rattle.outside.specs.Faults.{Rose}
 use Rattle.standby_cli.specs.Meaning.{reply_meaning}

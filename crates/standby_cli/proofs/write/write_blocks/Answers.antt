@@ -1,8 +1,7 @@
-use Rattle.std.proofs.Common.{ℕ, Result, Err, nat_lt, ◌+◌, arith, refl, sym, ap, subst, ◌∙◌}
+use Rattle.std.proofs.Common.{nat_lt, ◌+◌, arith, refl, sym, ap, subst, ◌∙◌}
 use Rattle.commit_log.specs.Log.{status_of}
 use Rattle.page_store.specs.Content.{Blocks, content}
 use Rattle.outside.specs.Sink.{Appends}
-use Rattle.pg_types.specs.declared.fail.Fail.{Fail}
 use Rattle.standby_cli.specs.Outcome.{WroteSome}
 use Rattle.seq_scan.specs.BlockRows.{BlockRows}
 use Rattle.standby_snapshot.specs.Snapshot.{in_numbers}

@@ -1,4 +1,4 @@
-use Rattle.std.proofs.Common.{ℕ, ◌++◌}
+use Rattle.std.proofs.Common.{◌++◌}
 use Rattle.std.specs.Prelude.{codes}
 use Rattle.commit_log.specs.Log.{status_of as transaction_status}
 use Rattle.page_store.specs.Content.{content}

@@ -1,8 +1,6 @@
-use Rattle.std.proofs.Common.{arith, ap, sym, cond, ◌∙◌, Bool, List, ℕ, Option, Ok, Err, Result, IfSome, subst}
+use Rattle.std.proofs.Common.{arith, ap, sym, List, ℕ, Option, IfSome, subst}
 use Rattle.heap_page.specs.Page.{IsPage}
 use Rattle.page_store.specs.Content.{table_count, page_answer}
-use Rattle.page_store.specs.declared.pool.PoolFault.{PoolFault}
-use Rattle.page_store.specs.declared.pool.PoolFault.TheVariants.{BadPage}
 use Rattle.page_store.proofs.Blocks.{table-found, page-found, missing-last, missing-past, there, within-found}
 use Rattle.page_store.proofs.pool.Pool.check_page.Goals as goal
 use Rattle.page_store.proofs.pool.Pool.check_page.Goals.{then-tag-eq4294967295-via-then-tag-eq4294967295, then-tag-eq4294967295-via-else-tag-eq4294967295+then-len-block}
@@ -18,18 +16,6 @@ returns-then-tag-eq4294967295-clause-err c =
           (missing-past pool tag.table tag.block c.index-table.result.now
           (table-found pool tag.table c.index-table.result.now c.requires c.index-table.ensures) (omega arith))
     ]
-
-pub returns-then-not-check-clause-err : goal.returns-then-not-check-clause-err
-unfolding table_count page_answer
-returns-then-not-check-clause-err c =
-    let pool = c.args.self.now in
-    let tag = c.args.tag in
-    let table = c.index-table.result.now in
-    let here = table-found pool tag.table table c.requires c.index-table.ensures in
-    let bytes = c.index.result.now in
-    let page = page-found table tag.block bytes (omega arith) c.index.ensures in
-    let answered : Bool → Result (List ℕ) PoolFault = λ v. cond v (Ok bytes) (Err BadPage) in
-    ap page_answer (there pool tag.table tag.block table bytes here (omega arith) page) ∙ ap answered (sym c.check.ensures ∙ c.if-not-check.true)
 
 pub returns-clause-has : goal.returns-clause-has
 unfolding table_count
@@ -52,4 +38,4 @@ returns-clause-page c =
     let bytes = c.index.result.now in
     let page = page-found table tag.block bytes (omega arith) c.index.ensures in
     let P : Option (List ℕ) → Type 0 = λ block. IfSome block IsPage in
-    subst P (sym (there pool tag.table tag.block table bytes here (omega arith) page)) (sym c.check.ensures ∙ c.if-not-check.false)
+    subst P (sym (there pool tag.table tag.block table bytes here (omega arith) page)) c.keeps_rule.ensures

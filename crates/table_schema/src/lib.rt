@@ -1,0 +1,17 @@
+//! The description of the tables that a standby serves: a TOML text that names a database, and its tables
+//! with their files and columns, as they would be read of `pg_class`, `pg_attribute` and `pg_attrdef`.
+#![tactic(auto)]
+
+mod columns;
+mod description;
+mod fault;
+mod look_up;
+mod members;
+mod name;
+mod row_text;
+mod tables;
+
+pub use description::read_schema;
+pub use fault::{Key, SchemaFault};
+pub use name::Name;
+pub use tables::Tables;
