@@ -1,0 +1,79 @@
+-- A log that stands over the files is a front of the whole one, and each of these is legal.
+use Rattle.std.proofs.Common.{◌≡◌, ℕ, ◌⊎◌, inl, inr, List, [], ◌∷◌, Result, Ok, Err, refl, sym, subst}
+use Rattle.wal_reader.specs.Told.{Told}
+use Rattle.wal_bodies.specs.declared.types.Rec.{Rec}
+use Rattle.standby_model.specs.Archived.{told_by}
+use Rattle.standby_model.specs.Log.{IsLog, Stands, Stop, next_of}
+use Rattle.row_model.specs.LegalRows.{LegalLog}
+use Rattle.row_model.specs.WorkedRows.{worked_origin}
+use Rattle.scan_model.specs.Run.{origin}
+use Rattle.scan_model.specs.Tables.{described}
+use Rattle.worked_archive.specs.WorkedArchive.{IsWorkedArchive, files, known, log}
+use Rattle.worked_logs.specs.ArchiveLog.{ArchiveIsLegal}
+use Rattle.worked_logs.specs.Clauses.{FrontsAreLegal}
+use Rattle.worked_premise.specs.Premise.{FilesAreLegal}
+use Rattle.worked_premise.proofs.Told.{is_log}
+
+-- the log, or it without its newest records
+abbrev IsFront : List Rec → List Rec → Type 0
+IsFront other [] = other ≡ []
+IsFront other (rec ∷ older) = (other ≡ rec ∷ older) ⊎ IsFront other older
+
+one_ok : {A E : Type 0} (r : Result A E) (a b : A) → r ≡ Ok a → r ≡ Ok b → a ≡ b
+one_ok r a b e f = cc
+
+not_both : {A E : Type 0} (r : Result A E) (a : A) (e : E) → r ≡ Ok a → r ≡ Err e → ⊥
+not_both r a e p q = cc
+
+module _ (told : Told) (from : ℕ) where
+  moved :
+      (one other : List Rec) (found : Result Rec Stop) → other ≡ one → next_of told described from other ≡ found
+      → next_of told described from one ≡ found
+  moved one other found e f = subst (λ (l : List Rec). next_of told described from l ≡ found) e f
+
+  is_whole : (log : List Rec) → IsFront log log
+  is_whole [] = refl
+  is_whole (rec ∷ older) = inl refl
+
+  -- with the record that follows a front is one, unless it is the whole log
+  one_more :
+      (log other : List Rec) (rec : Rec) → Stands told described from log → IsFront other log
+      → next_of told described from other ≡ Ok rec → (other ≡ log) ⊎ IsFront (rec ∷ other) log
+  one_more [] other rec s front next = inl front
+  one_more (newest ∷ older) other rec (found, s) (inl e) next = inl e
+  one_more (newest ∷ older) other rec (found, s) (inr front) next =
+      elim (one_more older other rec s front next) [
+        | inl e ↦
+            let same : newest ≡ rec = one_ok (next_of told described from older) newest rec found (moved older other (Ok rec) e next) in
+            let both : ◌≡◌ {A = List Rec} (rec ∷ other) (newest ∷ older) = cc in
+            inr (inl both)
+        | inr longer ↦ inr (inr longer)
+      ]
+
+  is_front :
+      (log : List Rec) (stop : Stop) → IsLog told described from log stop → (other : List Rec)
+      → Stands told described from other → IsFront other log
+  is_front log stop whole [] s = at_begin log
+    where
+      at_begin : (log : List Rec) → IsFront [] log
+      at_begin [] = refl
+      at_begin (rec ∷ older) = inr (at_begin older)
+  is_front log stop whole (rec ∷ older) (next, s) =
+      elim (one_more log older rec whole.stands (is_front log stop whole older s) next) [
+        | inl e ↦ absurd (not_both (next_of told described from log) rec stop (moved log older (Ok rec) e next) whole.stops)
+        | inr front ↦ front
+      ]
+
+legal_front :
+    FrontsAreLegal → (log other : List Rec) → LegalLog worked_origin known log → IsFront other log
+    → LegalLog worked_origin known other
+legal_front fronts [] other legal front = subst (λ (l : List Rec). LegalLog worked_origin known l) (sym front) legal
+legal_front fronts (rec ∷ older) other legal (inl e) =
+    subst (λ (l : List Rec). LegalLog worked_origin known l) (sym e) legal
+legal_front fronts (rec ∷ older) other legal (inr front) =
+    legal_front fronts older other (fronts worked_origin known rec older legal) front
+
+pub files_are_legal : IsWorkedArchive → ArchiveIsLegal → FrontsAreLegal → FilesAreLegal
+files_are_legal worked legal fronts other stands =
+    let whole = is_log worked in
+    legal_front fronts log other legal (is_front (told_by files) origin.redo.0 log _ whole other stands)

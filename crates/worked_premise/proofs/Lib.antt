@@ -1,0 +1,5 @@
+mod Answered
+mod Bytes
+mod Fronts
+mod Replayed
+mod Told
