@@ -150,6 +150,7 @@ impl Tables {
     /// The files of the tables, in order of their numbers.
     pub fn locators(&self) -> &[Locator]
         ensures files { result.now ≡ locators self.now }
+        ensures count { length result.now ≡ length self.now.tables }
         ensures few { length result.now ≤ 256 }
     {
         self.locators.as_slice()
