@@ -1,6 +1,6 @@
 -- The header of a WAL page (XLogPageHeaderData, XLogLongPageHeaderData, xlog_internal.h), and the rules
 -- by which a reader takes it (XLogReaderValidatePageHeader, xlogreader.c).
-use Rattle.std.specs.Prelude.{ℕ, ◌-◌, ◌%◌, ◌^◌, ◌<◌, ◌≡◌, ◌==◌, Bool, true, false, ◌&&◌, ◌||◌, not, nat_le, nat_lt, bit_and, Option, Some, None, Result, Ok, Err, List, [], ◌∷◌, ◌++◌, length, if◌then◌else◌, is_some, IsTrue, IfSome, IsSomeAnd, All}
+use Rattle.std.specs.Prelude.{ℕ, ◌-◌, ◌%◌, ◌^◌, ◌<◌, ◌≡◌, ◌==◌, Bool, true, false, ◌&&◌, ◌||◌, not, nat_le, nat_lt, bit_and, Option, Some, None, Result, Ok, Err, List, [], ◌∷◌, ◌++◌, length, if◌then◌else◌, is_some, IfSome, IsSomeAnd, All}
 use Rattle.std.specs.Option.{ForSome}
 use Rattle.byteorder.specs.Endian.{little_bytes}
 use Rattle.pg_types.specs.Names.{IsSegmentSize, is_segment_size}
