@@ -1,0 +1,5 @@
+mod Digits
+mod Names
+mod Numbers
+mod Pieces
+mod Words
