@@ -2,4 +2,5 @@ mod Digits
 mod Names
 mod Numbers
 mod Pieces
+mod Taken
 mod Words

@@ -20,22 +20,20 @@ abbrev pub last_line : List ℕ → List (List ℕ)
 last_line [] = []
 last_line (b ∷ bytes) = (b ∷ bytes) ∷ []
 
--- each text but the last is a line, and the last one if it is not empty
-abbrev pub lines_of : List (List ℕ) → List (List ℕ)
-lines_of [] = []
-lines_of (last ∷ []) = last_line last
-lines_of (line ∷ next ∷ more) = line ∷ lines_of (next ∷ more)
+-- each text but the last is a line; of the last one these are
+unfoldable pub lines_by : (List ℕ → List (List ℕ)) → List (List ℕ) → List (List ℕ)
+lines_by last [] = []
+lines_by last (text ∷ []) = last text
+lines_by last (line ∷ next ∷ more) = line ∷ lines_by last (next ∷ more)
 
 -- the lines of a source that was read to its end
 unfoldable pub lines_read : List ℕ → List (List ℕ)
-lines_read bytes = lines_of (pieces 10 bytes)
+lines_read bytes = lines_by last_line (pieces 10 bytes)
 
--- each text but the last is a line, and the last one as soon as it is too long
-abbrev pub lines_among : List (List ℕ) → List (List ℕ)
-lines_among [] = []
-lines_among (last ∷ []) = if nat_lt longest (length last) then last ∷ [] else []
-lines_among (line ∷ next ∷ more) = line ∷ lines_among (next ∷ more)
+-- bytes that have no end yet are a line as soon as they are too long for one
+abbrev pub line_too_long : List ℕ → List (List ℕ)
+line_too_long bytes = if nat_lt longest (length bytes) then bytes ∷ [] else []
 
 -- the lines of a source of which these bytes were taken so far
 unfoldable pub lines_taken : List ℕ → List (List ℕ)
-lines_taken bytes = lines_among (pieces 10 bytes)
+lines_taken bytes = lines_by line_too_long (pieces 10 bytes)
