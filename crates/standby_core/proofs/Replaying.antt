@@ -9,8 +9,8 @@ use Rattle.wal_reader.specs.declared.types.Next.{Next}
 use Rattle.wal_reader.specs.declared.types.Next.TheVariants as next
 use Rattle.wal_reader.specs.declared.types.ReadFault.{ReadFault}
 use Rattle.wal_reader.specs.declared.types.ReadFault.TheVariants as fault
-use Rattle.wal_reader.specs.declared.types.Stop.{Stop}
-use Rattle.wal_reader.specs.declared.types.Stop.TheVariants as stop
+use Rattle.wal_reader.specs.declared.types.NoRecord.{NoRecord}
+use Rattle.wal_reader.specs.declared.types.NoRecord.TheVariants as stop
 use Rattle.wal_reader.specs.Calls.{WhereTold}
 use Rattle.wal_reader.specs.Kept.{AreTold, Kept}
 use Rattle.wal_reader.specs.Standing.{Answers, BearsPosition, Standing}
@@ -167,7 +167,7 @@ refusal_replayed (Some byte) n m found reads others = λ told. let said = reads 
     same : (standby m).blocks ≡ (standby n).blocks
     same = ap (λ (s : Standby). s.blocks) others
 
-    stops_as : (why : Stop)
+    stops_as : (why : NoRecord)
         → step (record { byte = byte; owner = λ at. 1; system = n.reader.source.system; segsize = n.reader.source.segsize }) n.reader.at.0 n.reader.prev ≡ Err why
         → record_at (told_to (standby n) byte) (described_to (standby n)) n.reader.at.0 n.reader.prev ≡ Err (stop_by why)
     stops_as why e =
