@@ -3,9 +3,10 @@
 #![tactic(auto)]
 
 pub mod archive;
+pub mod base;
 pub mod faults;
 pub mod log;
-pub mod memory_archive;
+pub mod memory_files;
 pub mod memory_log;
 pub mod memory_sink;
 pub mod real;
@@ -13,10 +14,13 @@ pub mod sink;
 mod stored;
 
 pub use archive::Archive;
+pub use base::BaseDir;
 pub use faults::{FaultCount, FaultPlan};
 pub use log::LogBytes;
-pub use memory_archive::{MemoryArchive, SteadyArchive};
+pub use memory_files::{
+    MemoryArchive, MemoryBase, MemoryFiles, SteadyArchive, SteadyBase, SteadyFiles,
+};
 pub use memory_log::{MemoryLog, SteadyLog};
 pub use memory_sink::{MemorySink, SteadySink};
-pub use real::{FolderArchive, StdoutSink};
+pub use real::{Folder, StdoutSink};
 pub use sink::Sink;

@@ -1,9 +1,11 @@
 // The real objects. They tell no content and count their failures.
-ghost use Rattle.std.specs.Prelude.{◌≡◌, ◌≢◌, ◌≤◌, length, IfOk, None};
-ghost use Rattle.outside.specs.Faults.{Rose, counted};
+ghost use Rattle.std.specs.Prelude.{◌≡◌, ◌≢◌, ◌≤◌, length, IfOk, None, Err};
+ghost use Rattle.outside.specs.Archive.{FitsIn};
+ghost use Rattle.outside.specs.Faults.{HasCause, Rose, counted};
 ghost use Rattle.outside.specs.Counts.{counted_IsCount, counted_le};
 
 use crate::archive::Archive;
+use crate::base::BaseDir;
 use crate::faults::FaultCount;
 use crate::sink::Sink;
 use pg_types::Fail;
@@ -12,33 +14,47 @@ use std::io::{ErrorKind, Read, Seek, SeekFrom, Write};
 use std::rt::Files;
 use std::{fs, io};
 
-/// The folder `archive` of the current folder.
+/// A folder of the current folder: `archive` or `base`.
 #[derive(Drop)]
-pub struct FolderArchive<'a, R: Files> {
+pub struct Folder<'a, R: Files> {
     alloc: Global,
     rt: &'a R,
+    folder: &'static str,
     count: FaultCount,
 }
 
-impl<'a, R: Files> FolderArchive<'a, R> {
-    pub fn new(alloc: Global, rt: &'a R) -> FolderArchive<'a, R>
+impl<'a, R: Files> Folder<'a, R> {
+    /// The folder `archive`, of log segments and history files.
+    pub fn archive(alloc: Global, rt: &'a R) -> Folder<'a, R>
         ensures { counted result.count.faults ≡ 0 }
     {
-        FolderArchive {
+        Folder {
             alloc,
             rt,
+            folder: "archive",
             count: FaultCount::new(),
         }
     }
-}
 
-impl<R: Files> Archive for FolderArchive<'_, R> {
-    ghost files = { λ _. None };
+    /// The folder `base`, of a base backup.
+    pub fn base(alloc: Global, rt: &'a R) -> Folder<'a, R>
+        ensures { counted result.count.faults ≡ 0 }
+    {
+        Folder {
+            alloc,
+            rt,
+            folder: "base",
+            count: FaultCount::new(),
+        }
+    }
 
-    ghost fault_count = { λ archive. counted archive.count.faults };
-
-    fn fetch(&mut self, name: &str, at: u64, buf: &mut [u8]) -> Result<Option<usize>, Fail> {
-        let Ok(path) = format!(in self.alloc; "archive/{name}") else {
+    /// Reads the file of this name from its byte `at` on into the front of `buf`.
+    fn read(&mut self, name: &str, at: u64, buf: &mut [u8]) -> Result<Option<usize>, Fail>
+        ensures fits { FitsIn buf.old result }
+        ensures cause { HasCause (counted self.old.count.faults) (counted self.new.count.faults) result }
+        ensures uncounted { result ≢ Err Fail.Failed → counted self.new.count.faults ≡ counted self.old.count.faults }
+    {
+        let Ok(path) = format!(in self.alloc; "{}/{name}", self.folder) else {
             return Err(Fail::Memory);
         };
         match fs::open(self.rt, path.as_str()) {
@@ -50,12 +66,40 @@ impl<R: Files> Archive for FolderArchive<'_, R> {
             Err(error) => Err(failure(&mut self.count, error.kind())),
         }
     }
+}
+
+impl<R: Files> Archive for Folder<'_, R> {
+    ghost files = { λ _. None };
+
+    ghost fault_count = { λ folder. counted folder.count.faults };
+
+    fn fetch(&mut self, name: &str, at: u64, buf: &mut [u8]) -> Result<Option<usize>, Fail> {
+        self.read(name, at, buf)
+    }
 
     fn faults(&self) -> u64 {
         self.count.value()
     }
 
-    ghost counts = { λ archive. counted_IsCount archive.count.faults };
+    ghost counts = { λ folder. counted_IsCount folder.count.faults };
+
+    ghost bytes = { λ _. tt };
+}
+
+impl<R: Files> BaseDir for Folder<'_, R> {
+    ghost files = { λ _. None };
+
+    ghost fault_count = { λ folder. counted folder.count.faults };
+
+    fn fetch(&mut self, name: &str, at: u64, buf: &mut [u8]) -> Result<Option<usize>, Fail> {
+        self.read(name, at, buf)
+    }
+
+    fn faults(&self) -> u64 {
+        self.count.value()
+    }
+
+    ghost counts = { λ folder. counted_IsCount folder.count.faults };
 
     ghost bytes = { λ _. tt };
 }
