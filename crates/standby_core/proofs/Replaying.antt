@@ -1,9 +1,7 @@
 -- The steps of a replay put together.
 use Rattle.std.proofs.Common.{◌≡◌, ◌⊎◌, inl, inr, ℕ, zero, suc, ◌+◌, ◌-◌, ◌≤◌, ◌^◌, Option, Some, None, Result, Ok, Err, refl, sym, ◌∙◌, ap, subst, arith, true}
 use Rattle.std.specs.Prelude.{IsTrue}
-use Rattle.pg_types.specs.Names.{IsSegmentSize}
 use Rattle.pg_types.specs.declared.names.Lsn.{Lsn}
-use Rattle.wal_page.specs.Page.{is_segment_size}
 use Rattle.wal_record.specs.Decoded.{decoded}
 use Rattle.wal_record.specs.Record.{Record}
 use Rattle.wal_reader.specs.declared.types.EndWhy.{EndWhy}
@@ -11,8 +9,8 @@ use Rattle.wal_reader.specs.declared.types.Next.{Next}
 use Rattle.wal_reader.specs.declared.types.Next.TheVariants as next
 use Rattle.wal_reader.specs.declared.types.ReadFault.{ReadFault}
 use Rattle.wal_reader.specs.declared.types.ReadFault.TheVariants as fault
-use Rattle.wal_reader.specs.declared.types.Stop.{Stop}
-use Rattle.wal_reader.specs.declared.types.Stop.TheVariants as stop
+use Rattle.wal_reader.specs.declared.types.NoRecord.{NoRecord}
+use Rattle.wal_reader.specs.declared.types.NoRecord.TheVariants as stop
 use Rattle.wal_reader.specs.Calls.{WhereTold}
 use Rattle.wal_reader.specs.Kept.{AreTold, Kept}
 use Rattle.wal_reader.specs.Standing.{Answers, BearsPosition, Standing}
@@ -38,27 +36,6 @@ use Rattle.standby_core.specs.Replay.{IsRefusedAs, by_blocks, by_record, Replays
 use Rattle.standby_core.specs.Steps.{GivenReplays, Gives, RecReplays, TypedForm, body_refusal, refusing, unread}
 use Rattle.standby_core.specs.View.{ReplaysTold, standby}
 use Rattle.standby_core.proofs.Refusing.{redone_not_memory}
-
--- a size that is allowed passes the test
-power_passes : (k : ℕ) → k ≤ 10 → is_segment_size (2 ^ (20 + k)) ≡ true
-unfolding is_segment_size
-power_passes zero h = refl
-power_passes (suc zero) h = refl
-power_passes (suc (suc zero)) h = refl
-power_passes (suc (suc (suc zero))) h = refl
-power_passes (suc (suc (suc (suc zero)))) h = refl
-power_passes (suc (suc (suc (suc (suc zero))))) h = refl
-power_passes (suc (suc (suc (suc (suc (suc zero)))))) h = refl
-power_passes (suc (suc (suc (suc (suc (suc (suc zero))))))) h = refl
-power_passes (suc (suc (suc (suc (suc (suc (suc (suc zero)))))))) h = refl
-power_passes (suc (suc (suc (suc (suc (suc (suc (suc (suc zero))))))))) h = refl
-power_passes (suc (suc (suc (suc (suc (suc (suc (suc (suc (suc zero)))))))))) h = refl
-power_passes (suc (suc (suc (suc (suc (suc (suc (suc (suc (suc (suc k))))))))))) h = absurd (omega arith)
-
-pub size_passes : (size : ℕ) → IsSegmentSize size → IsTrue (is_segment_size size)
-size_passes size is =
-    let split : 20 + (is.exponent - 20) ≡ is.exponent = omega (arith, is.low) in
-    subst (λ n. IsTrue (is_segment_size n)) (ap (λ e. 2 ^ e) split ∙ sym is.power) (power_passes (is.exponent - 20) (omega (arith, is.high)))
 
 -- one position
 pub same_lsn : (a b : Lsn) → a.0 ≡ b.0 → a ≡ b
@@ -190,7 +167,7 @@ refusal_replayed (Some byte) n m found reads others = λ told. let said = reads 
     same : (standby m).blocks ≡ (standby n).blocks
     same = ap (λ (s : Standby). s.blocks) others
 
-    stops_as : (why : Stop)
+    stops_as : (why : NoRecord)
         → step (record { byte = byte; owner = λ at. 1; system = n.reader.source.system; segsize = n.reader.source.segsize }) n.reader.at.0 n.reader.prev ≡ Err why
         → record_at (told_to (standby n) byte) (described_to (standby n)) n.reader.at.0 n.reader.prev ≡ Err (stop_by why)
     stops_as why e =

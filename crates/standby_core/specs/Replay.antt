@@ -3,7 +3,7 @@
 use Rattle.std.specs.Prelude.{◌≡◌, ◌⊎◌, ℕ, ◌+◌, ◌^◌, ◌<◌, ◌≤◌, ◌==◌, Bool, false, Option, Some, None, Result, Ok, Err, if◌then◌else◌}
 use Rattle.pg_types.specs.declared.names.Lsn.{Lsn}
 use Rattle.wal_record.specs.declared.types.PrevRule.TheVariants.{Is}
-use Rattle.wal_reader.specs.declared.types.Stop.{Stop as ReadStop}
+use Rattle.wal_reader.specs.declared.types.NoRecord.{NoRecord}
 use Rattle.wal_reader.specs.Step.{Entry}
 use Rattle.wal_bodies.specs.declared.types.Rec.{Rec}
 use Rattle.wal_bodies.specs.declared.types.RecKind.{RecKind}
@@ -86,7 +86,7 @@ Replays (Err Memory) old new found = MayBeRedone old new found
 
 -- where nothing is told of what stands at the node's position, the answer is that of something that may stand there
 abbrev pub ReplaysSome : Result Replayed NodeFault → Standby → Standby → Type 0
-ReplaysSome result old new = (found : Result Entry ReadStop) × Replays result old new (typed_of (described_to old) found)
+ReplaysSome result old new = (found : Result Entry NoRecord) × Replays result old new (typed_of (described_to old) found)
 
 -- where no record was applied, all but the blocks, and what is kept of the log, is as before
 abbrev pub StaysUnlessApplied : Result Replayed NodeFault → Standby → Standby → Type 0

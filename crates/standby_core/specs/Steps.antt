@@ -43,7 +43,7 @@ unread fault.Memory = Err Memory
 
 -- the record from `start` to `end` is the one that the reader gave last
 abbrev pub Gives : Standing → Lsn → Lsn → Type 0
-Gives reader start end = reader.given ≡ Some (record { start = start; end = end; link = reader.prev })
+Gives reader start end = reader.given ≡ Some (start, end)
 
 -- it is this record
 abbrev pub IsGiven : Standing → Lsn → Record → Type 0
