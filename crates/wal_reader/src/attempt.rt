@@ -1,6 +1,6 @@
 ghost use Rattle.std.specs.Prelude.{◌≡◌, ◌≢◌, ◌+◌, ◌-◌, ◌*◌, ◌^◌, ◌<◌, ◌≤◌, ℕ, [], length, Some, None, Ok, Err, IfOk, IfErr, IsOk, IsTrue};
 ghost use Rattle.outside.specs.Faults.{Rose};
-ghost use Rattle.wal_page.specs.Page.{is_segment_size};
+ghost use Rattle.pg_types.specs.Names.{IsSegmentSize};
 ghost use Rattle.wal_record.specs.Decoded.{head_of, decoded};
 ghost use Rattle.wal_reader.specs.Step as spec;
 ghost use Rattle.wal_reader.specs.Calls.{LogStays, WhereTold, Says, SaysHead, SaysSome, GivesUpPast, text_at, IsThere};
@@ -186,9 +186,9 @@ fn test_head(bytes: &[u8], start: u64, prev: PrevRule) -> Result<(), Trouble>
 }
 
 /// The position at which the record's end is, where its last byte stands right before `behind`.
-#[tactic(auto, unfolding(crate::specs::Step::end_after, wal_page::specs::Page::is_segment_size))]
+#[tactic(auto, unfolding(crate::specs::Step::end_after, pg_types::specs::Names::is_segment_size))]
 fn end_of(segsize: u32, head: RecordHead, behind: u64) -> u64
-    requires allowed { IsTrue (is_segment_size segsize) }
+    requires allowed { IsSegmentSize segsize }
     requires bounded { behind ≤ 2 ^ 63 }
     ensures value { result ≡ spec.end_after segsize head behind }
     ensures onward { behind ≤ result }

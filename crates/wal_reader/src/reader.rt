@@ -1,6 +1,6 @@
 ghost use Rattle.std.specs.Prelude.{◌≡◌, ◌≢◌, ◌+◌, ◌^◌, ◌<◌, ◌≤◌, ℕ, [], Some, None, Ok, Err, IfOk, IfSome, IfErr, IsSome, IsTrue};
 ghost use Rattle.outside.specs.Faults.{Rose};
-ghost use Rattle.wal_page.specs.Page.{is_segment_size};
+ghost use Rattle.pg_types.specs.Names.{IsSegmentSize};
 ghost use Rattle.wal_record.specs.Decoded.{decoded};
 ghost use Rattle.wal_reader.specs.Step.{step};
 ghost use Rattle.wal_reader.specs.Calls.{LogStays, WhereTold};
@@ -47,7 +47,7 @@ impl Reader {
         at: Lsn,
         prev: PrevRule,
     ) -> Result<Reader, NoMemory>
-        requires { IsTrue (is_segment_size segsize) }
+        requires { IsSegmentSize segsize }
         ensures { IfOk result (λ r. r ≡ record {
           at = at;
           prev = prev;
