@@ -111,3 +111,9 @@ four_bytes page at a b c d ea eb ec ed = number_at-moved 4 0 at (a ∷ b ∷ c �
     each (suc (suc zero)) inside = ec
     each (suc (suc (suc zero))) inside = ed
     each (suc (suc (suc (suc i)))) inside = absurd (omega (arith, inside))
+
+-- each byte of a block of zeros is zero, and so is what is read past it
+pub zeros_at : (n i : ℕ) → get_or {A = ℕ} (replicate n 0) i 0 ≡ 0
+zeros_at zero i = refl
+zeros_at (suc n) zero = refl
+zeros_at (suc n) (suc i) = zeros_at n i
