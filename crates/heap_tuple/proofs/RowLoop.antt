@@ -25,7 +25,8 @@ after_one_more : (done : List Cell) (cell : Cell) (r : Result (List Cell) RowRef
 after_one_more done cell (Ok cells) = ap (λ xs. Ok xs) (sym (append_assoc done (cell ∷ []) cells))
 after_one_more done cell (Err fault) = refl
 
-next_column : (tuple : List ℕ) (i at : ℕ) (columns : List Column) (column : Column) → i < length columns → column ≡ get_or columns i column → cells_from tuple i at (drop i columns) ≡ row_from i (column_value tuple i at column) (λ next. cells_from tuple (i + 1) next (drop (i + 1) columns))
+-- the cells from a column on begin with its own
+pub next_column : (tuple : List ℕ) (i at : ℕ) (columns : List Column) (column : Column) → i < length columns → column ≡ get_or columns i column → cells_from tuple i at (drop i columns) ≡ row_from i (column_value tuple i at column) (λ next. cells_from tuple (i + 1) next (drop (i + 1) columns))
 unfolding cells_from
 next_column tuple i at columns column h e =
     ap (cells_from tuple i at) (drop_more columns i column h)

@@ -11,4 +11,4 @@ mod values;
 pub use cell::{Cell, Column, Kind, Row};
 pub use tuple_view::{MaxOf, TupleView, is_lock_only, is_tuple, is_tuple_head};
 pub use value::Value;
-pub use values::{RowFault, ValueRefusal};
+pub use values::{RowFault, ValueRefusal, fault_in};

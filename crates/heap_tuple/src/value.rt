@@ -14,6 +14,20 @@ pub enum Value<'a> {
     Bytes(&'a [u8]),
 }
 
+impl Cell {
+    /// The value that the cell has.
+    pub fn lend(&self) -> Value<'_>
+        ensures { meant result ≡ self.now }
+    {
+        match self {
+            Cell::Null => Value::Null,
+            Cell::Bool(truth) => Value::Bool(*truth),
+            Cell::Int(number) => Value::Int(*number),
+            Cell::Bytes(bytes) => Value::Bytes(bytes.as_slice()),
+        }
+    }
+}
+
 /// The value with memory of its own.
 fn owned(alloc: Global, value: &Value<'_>) -> Result<Cell, NoMemory>
     ensures { IfOk result (λ cell. cell ≡ meant value.now) }

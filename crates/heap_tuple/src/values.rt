@@ -218,7 +218,7 @@ fn missing_cell(alloc: Global, column: &Column) -> Result<Cell, NoMemory>
 }
 
 /// The fault of a row whose column `i` is refused so.
-fn fault_in(i: usize, refusal: ValueRefusal) -> RowFault
+pub fn fault_in(i: usize, refusal: ValueRefusal) -> RowFault
     requires { i < 2048 }
     ensures { result ≡ fault_in i refusal }
 {
