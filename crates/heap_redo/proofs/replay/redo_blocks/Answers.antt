@@ -5,7 +5,7 @@ use Rattle.page_store.specs.Content.{content}
 use Rattle.heap_redo.specs.declared.fault.RedoFault.{RedoFault}
 use Rattle.heap_redo.specs.Redone.{View, Outcome, view_of, redone, redone_at, Stands}
 use Rattle.heap_redo.proofs.Sequence.{redone-none, redone-more, redone-stops}
-use Rattle.heap_redo.proofs.replay.redo.Goals as goal
+use Rattle.heap_redo.proofs.replay.redo_blocks.Goals as goal
 
 pub loop-block-init : goal.loop-block-init
 loop-block-init c = record { done = redone-none c.args.rec.now c.args.known.now (view_of (content c.args.pool.now)); tables = refl }

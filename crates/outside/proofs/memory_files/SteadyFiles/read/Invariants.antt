@@ -3,7 +3,7 @@ use Rattle.std.specs.Prelude.{map}
 use Rattle.outside.specs.Entries.{entries}
 use Rattle.outside.specs.Memory.{file_named}
 use Rattle.outside.specs.declared.stored.StoredFile.{StoredFile}
-use Rattle.outside.proofs.memory_archive.SteadyArchiveArchive.fetch.Given as goal
+use Rattle.outside.proofs.memory_files.SteadyFiles.read.Given as goal
 
 abbrev pub invariant-loop-file : goal.invariant-loop-file
 invariant-loop-file l =
