@@ -28,11 +28,7 @@ pub enum SchemaFile {
 ///
 /// # Errors
 /// `Failed` only where the folder's faults rose, `Memory` for want of memory.
-pub fn read_tables<B: BaseDir>(
-    alloc: Global,
-    base: &mut B,
-    name: &str,
-) -> Result<SchemaFile, Fail>
+pub fn read_tables<B: BaseDir>(alloc: Global, base: &mut B, name: &str) -> Result<SchemaFile, Fail>
     ensures told { IfOk result (λ file. IfSome (B.files base.old) (λ files. AnswersFile (files name.now) (reading file))) }
     ensures some { IfOk result (λ file. (contents : Option (List ℕ)) × AnswersFile contents (reading file)) }
     ensures named { IfOk result (λ file. file ≢ SchemaFile.Refused SchemaFault.Memory) }
