@@ -1,13 +1,10 @@
-ghost use Rattle.std.specs.Prelude.{◌≡◌, ◌+◌, ◌*◌, ◌≤◌, ◌<◌, ◌^◌, length, option_map, IfOk};
+ghost use Rattle.std.specs.Prelude.{◌≡◌, ◌+◌, ◌≤◌, length, option_map};
 ghost use Rattle.std.specs.Int.{cast_signed, w32, w64};
 ghost use Rattle.pg_types.specs.Numbers.{number_at};
 ghost use Rattle.wal_record.specs.Views.{block_of_view};
-ghost use Rattle.wal_bodies.specs.Fields.{lsn_at, tli_at, xid_at, xids_at, lines_at, main_block};
+ghost use Rattle.wal_bodies.specs.Fields.{lsn_at, tli_at, xid_at, main_block};
 
-use crate::lists::Lines;
-use crate::refusal::Refusal;
-use pg_types::{Lsn, NoMemory, Tli, Xid, XidList, u16_at, u32_at, u64_at};
-use std::alloc::Global;
+use pg_types::{Lsn, Tli, Xid, u32_at, u64_at};
 use wal_record::{BlockView, RecordView};
 
 /// A position of eight bytes.
@@ -48,44 +45,6 @@ pub(crate) fn i64_at(text: &[u8], at: usize) -> i64
     ensures { result ≡ cast_signed w64 (number_at 8 text.now at) }
 {
     u64_at(text, at).cast_signed()
-}
-
-/// As many transaction ids, one after another.
-#[tactic(auto, using(crate::proofs::Listed::xids_none, crate::proofs::Listed::xids_more))]
-pub(crate) fn xids_at(
-    alloc: Global,
-    text: &[u8],
-    at: usize,
-    count: usize,
-) -> Result<XidList, NoMemory>
-    requires small { count < 2 ^ 32 }
-    requires there { at + 4 * count ≤ length text.now }
-    ensures { IfOk result (λ xids. xids ≡ xids_at text.now at count) }
-{
-    let mut xids = XidList::new(alloc);
-    for i in 0..count {
-        xids.push(xid_at(text, at + 4 * i))?;
-    }
-    Ok(xids)
-}
-
-/// As many lines, one after another.
-#[tactic(auto, using(crate::proofs::Listed::lines_none, crate::proofs::Listed::lines_more))]
-pub(crate) fn lines_at(
-    alloc: Global,
-    text: &[u8],
-    at: usize,
-    count: usize,
-) -> Result<Lines, NoMemory>
-    requires small { count < 2 ^ 32 }
-    requires there { at + 2 * count ≤ length text.now }
-    ensures { IfOk result (λ lines. lines ≡ lines_at text.now at count) }
-{
-    let mut lines = Lines::new(alloc);
-    for i in 0..count {
-        lines.push(u16_at(text, at + 2 * i))?;
-    }
-    Ok(lines)
 }
 
 /// The block with this id, if the record has one, of the main fork.

@@ -2,11 +2,12 @@
 //! manager and its info (xlogrecord.h; the record structs of each manager, as heapam_xlog.h).
 #![tactic(auto)]
 
+mod blocks;
 mod fields;
 mod heap;
 mod lists;
+mod new_tuples;
 mod rec;
-mod refusal;
 mod running;
 mod tuples;
 mod typed;
@@ -14,7 +15,9 @@ mod types;
 mod xact;
 mod xlog;
 
-pub use lists::{Lines, NewTuples, RecBlocks};
+pub use blocks::RecBlocks;
+pub use lists::{Lines, RecBytes, Xids};
+pub use new_tuples::NewTuples;
 pub use rec::one_form;
 pub use typed::body;
-pub use types::{BodyFault, NewTuple, Rec, RecBlock, RecKind, What};
+pub use types::{BodyFault, NewTuple, Rec, RecBlock, RecImage, RecKind, What};

@@ -1,146 +1,209 @@
-ghost use Rattle.std.specs.Prelude.{◌≡◌, OnOk, OnErr, [], ◌∷◌, ◌++◌, length};
+ghost use Rattle.std.specs.Prelude.{◌≡◌, ◌+◌, ◌*◌, ◌≤◌, ◌^◌, length};
+ghost use Rattle.std.specs.Iterator.{YieldsFirst, item_count};
+ghost use Rattle.wal_bodies.specs.Fields.{xids_at, lines_at, first_lines};
 
-use crate::types::{NewTuple, RecBlock};
-use pg_types::NoMemory;
-use std::alloc::Global;
+use crate::fields::xid_at;
+use pg_types::{Xid, u16_at};
 use std::marker::Model;
 
-/// Lines of a page, which are numbered from 1. Contracts see them as a list.
+/// A part of a record's bytes. Contracts see it as the list of its bytes.
 #[derive(Debug, Drop)]
-pub struct Lines {
-    lines: Vec<u16>,
+pub struct RecBytes<'a> {
+    bytes: &'a [u8],
 }
 
-impl Model for Lines {
+impl<'a> Model for RecBytes<'a> {
     ghost use Rattle.std.specs.Prelude.{ℕ, List};
 
     ghost Value = { List ℕ };
 
-    ghost view = { λ l. l.lines.items };
+    ghost view = { λ b. b.bytes.now };
 }
 
-impl Lines {
-    /// No lines, and no memory taken.
-    pub fn new(alloc: Global) -> Lines
+impl<'a> RecBytes<'a> {
+    pub fn new(bytes: &'a [u8]) -> RecBytes<'a>
+        ensures { result ≡ bytes.now }
+    {
+        RecBytes { bytes }
+    }
+
+    pub fn as_slice(&self) -> &'a [u8]
+        ensures { result.now ≡ self.now }
+    {
+        self.bytes
+    }
+}
+
+/// Transaction ids that stand in a record, read where they stand: an iterator. Contracts see it as the
+/// list of those that are left.
+#[derive(Debug, Drop)]
+pub struct Xids<'a> {
+    text: &'a [u8],
+    /// Where the next one stands.
+    at: usize,
+    /// How many are left.
+    count: usize,
+}
+
+impl<'a> Model for Xids<'a> {
+    ghost use Rattle.std.specs.Prelude.{List, ◌+◌, ◌*◌, ◌≤◌, length};
+    ghost use Rattle.pg_types.specs.declared.names.Xid.{Xid};
+
+    ghost Value = { List Xid };
+
+    ghost use Rattle.wal_bodies.specs.Fields.{xids_at};
+
+    ghost view = { λ x. xids_at x.text.now x.at x.count };
+
+    ghost invariant = { λ x. x.at + 4 * x.count ≤ length x.text.now };
+}
+
+impl<'a> Xids<'a> {
+    ghost use Rattle.std.specs.Prelude.{[]};
+
+    /// As many ids as are counted, from `at` on, of four bytes each.
+    pub fn new(text: &'a [u8], at: usize, count: usize) -> Xids<'a>
+        requires { at + 4 * count ≤ length text.now }
+        ensures { result ≡ xids_at text.now at count }
+    {
+        Xids { text, at, count }
+    }
+
+    #[tactic(auto, unfolding(crate::specs::Fields::xids_at))]
+    pub fn none() -> Xids<'a>
         ensures { result ≡ [] }
+    {
+        Xids {
+            text: &[],
+            at: 0,
+            count: 0,
+        }
+    }
+
+    /// The same ids, to be gone through from the first one that is left.
+    pub fn again(&self) -> Xids<'a>
+        ensures { result ≡ self.now }
+    {
+        Xids {
+            text: self.text,
+            at: self.at,
+            count: self.count,
+        }
+    }
+}
+
+impl<'a> Iterator for Xids<'a> {
+    type Item = Xid;
+
+    ghost next_gives = { YieldsFirst (λ rest. rest) };
+
+    ghost remaining = { item_count (λ rest. rest) };
+
+    #[tactic(auto, using(crate::proofs::Listed::xids_done, crate::proofs::Listed::xids_next))]
+    fn next(&mut self) -> Option<Xid> {
+        if self.count == 0 {
+            return None;
+        }
+        let xid = xid_at(self.text, self.at);
+        self.at += 4;
+        self.count -= 1;
+        Some(xid)
+    }
+}
+
+/// Lines of a page, which are numbered from 1, read where they stand in a record, or those in a row: an
+/// iterator. Contracts see it as the list of those that are left.
+#[derive(Debug, Drop)]
+pub struct Lines<'a> {
+    /// The lines stand in the text. Else they are in a row.
+    is_listed: bool,
+    text: &'a [u8],
+    /// Where the next one stands in the text, or the next one.
+    next: usize,
+    /// How many are left.
+    count: usize,
+}
+
+impl<'a> Model for Lines<'a> {
+    ghost use Rattle.std.specs.Prelude.{List, ℕ};
+
+    ghost Value = { List ℕ };
+
+    ghost use Rattle.wal_bodies.specs.Stored.{lines_in, DoLinesStand};
+
+    ghost view = { λ l. lines_in l.is_listed l.text.now l.next l.count };
+
+    ghost invariant = { λ l. DoLinesStand l.is_listed l.text.now l.next l.count };
+}
+
+impl<'a> Lines<'a> {
+    /// As many lines as are counted, from `at` on, of two bytes each.
+    pub fn listed(text: &'a [u8], at: usize, count: usize) -> Lines<'a>
+        requires { at + 2 * count ≤ length text.now }
+        ensures { result ≡ lines_at text.now at count }
     {
         Lines {
-            lines: Vec::new(alloc),
+            is_listed: true,
+            text,
+            next: at,
+            count,
         }
     }
 
-    pub fn as_slice(&self) -> &[u16]
-        ensures { result.now ≡ self.now }
+    /// The lines from 1 to the count.
+    #[tactic(auto, unfolding(crate::specs::Fields::first_lines))]
+    pub fn first(count: u16) -> Lines<'a>
+        ensures { result ≡ first_lines count }
     {
-        self.lines.as_slice()
-    }
-
-    pub fn len(&self) -> usize
-        ensures { result ≡ length self.now }
-    {
-        self.lines.len()
-    }
-
-    /// Puts one line behind those that are there.
-    pub fn push(&mut self, line: u16) -> Result<(), NoMemory>
-        ensures ok { OnOk result (self.new ≡ self.old ++ line ∷ []) }
-        ensures err { OnErr result (self.new ≡ self.old) }
-    {
-        self.lines.push(line)?;
-        Ok(())
-    }
-}
-
-/// Tuples that a record puts into a block. Contracts see them as a list.
-#[derive(Debug, Drop)]
-pub struct NewTuples {
-    tuples: Vec<NewTuple>,
-}
-
-impl Model for NewTuples {
-    ghost use Rattle.std.specs.Prelude.{List};
-    ghost use Rattle.wal_bodies.specs.declared.types.NewTuple.{NewTuple};
-
-    ghost Value = { List NewTuple };
-
-    ghost view = { λ l. l.tuples.items };
-}
-
-impl NewTuples {
-    /// No tuples, and no memory taken.
-    pub fn new(alloc: Global) -> NewTuples
-        ensures { result ≡ [] }
-    {
-        NewTuples {
-            tuples: Vec::new(alloc),
+        Lines {
+            is_listed: false,
+            text: &[],
+            next: 1,
+            count: count as usize,
         }
     }
 
-    pub fn as_slice(&self) -> &[NewTuple]
-        ensures { result.now ≡ self.now }
-    {
-        self.tuples.as_slice()
-    }
-
+    /// How many are left.
+    #[tactic(auto, using(crate::proofs::Listed::lines_count))]
     pub fn len(&self) -> usize
         ensures { result ≡ length self.now }
     {
-        self.tuples.len()
+        self.count
     }
 
-    /// Puts one tuple behind those that are there.
-    pub fn push(&mut self, tuple: NewTuple) -> Result<(), NoMemory>
-        ensures ok { OnOk result (self.new ≡ self.old ++ tuple ∷ []) }
-        ensures err { OnErr result (self.new ≡ self.old) }
+    /// The same lines, to be gone through from the first one that is left.
+    pub fn again(&self) -> Lines<'a>
+        ensures { result ≡ self.now }
     {
-        self.tuples.push(tuple)?;
-        Ok(())
-    }
-}
-
-/// The blocks that a record changes. Contracts see them as a list.
-#[derive(Debug, Drop)]
-pub struct RecBlocks {
-    blocks: Vec<RecBlock>,
-}
-
-impl Model for RecBlocks {
-    ghost use Rattle.std.specs.Prelude.{List};
-    ghost use Rattle.wal_bodies.specs.declared.types.RecBlock.{RecBlock};
-
-    ghost Value = { List RecBlock };
-
-    ghost view = { λ l. l.blocks.items };
-}
-
-impl RecBlocks {
-    /// No blocks, and no memory taken.
-    pub fn new(alloc: Global) -> RecBlocks
-        ensures { result ≡ [] }
-    {
-        RecBlocks {
-            blocks: Vec::new(alloc),
+        Lines {
+            is_listed: self.is_listed,
+            text: self.text,
+            next: self.next,
+            count: self.count,
         }
     }
+}
 
-    pub fn as_slice(&self) -> &[RecBlock]
-        ensures { result.now ≡ self.now }
-    {
-        self.blocks.as_slice()
-    }
+impl<'a> Iterator for Lines<'a> {
+    type Item = u16;
 
-    pub fn len(&self) -> usize
-        ensures { result ≡ length self.now }
-    {
-        self.blocks.len()
-    }
+    ghost next_gives = { YieldsFirst (λ rest. rest) };
 
-    /// Puts one block behind those that are there.
-    pub fn push(&mut self, block: RecBlock) -> Result<(), NoMemory>
-        ensures ok { OnOk result (self.new ≡ self.old ++ block ∷ []) }
-        ensures err { OnErr result (self.new ≡ self.old) }
-    {
-        self.blocks.push(block)?;
-        Ok(())
+    ghost remaining = { item_count (λ rest. rest) };
+
+    #[tactic(auto, using(crate::proofs::Listed::lines_done, crate::proofs::Listed::listed_next, crate::proofs::Listed::row_next))]
+    fn next(&mut self) -> Option<u16> {
+        if self.count == 0 {
+            return None;
+        }
+        self.count -= 1;
+        if self.is_listed {
+            let line = u16_at(self.text, self.next);
+            self.next += 2;
+            return Some(line);
+        }
+        let line = self.next as u16;
+        self.next += 1;
+        Some(line)
     }
 }

@@ -3,8 +3,8 @@ ghost use Rattle.wal_record.specs.Views.{image_of_view};
 ghost use Rattle.wal_bodies.specs.Typed.{is_commit, image_with_id, kept_image};
 ghost use Rattle.wal_bodies.specs.Laws.{OneForm, OneRefusal};
 
-use crate::types::{Rec, RecKind};
-use wal_record::{ImageView, NewImage};
+use crate::types::{Rec, RecImage, RecKind};
+use wal_record::ImageView;
 
 /// Two laws of the typed form: a record has at most one, and where it is refused it has none, and the
 /// refusal is the only one.
@@ -13,7 +13,7 @@ pub fn one_form()
     ensures refusal { OneRefusal }
 {}
 
-impl Rec {
+impl<'a> Rec<'a> {
     /// Whether the record is a transaction's commit. The end of a transaction that is none is its abort.
     pub fn is_commit(&self) -> bool
         ensures { result ≡ is_commit self.now.head self.now.kind }
@@ -25,10 +25,10 @@ impl Rec {
     }
 
     /// The image of the block with this id, if the record has the block and the block an image.
-    pub fn image(&self, id: u8) -> Option<ImageView<'_>>
+    pub fn image(&self, id: u8) -> Option<ImageView<'a>>
         ensures { option_map image_of_view result ≡ image_with_id id self.now.blocks }
     {
-        for block in self.blocks.as_slice() {
+        for block in self.blocks.again() {
             if block.id == id {
                 return lent(&block.image);
             }
@@ -38,7 +38,7 @@ impl Rec {
 }
 
 /// An image, lent.
-fn lent(image: &Option<NewImage>) -> Option<ImageView<'_>>
+fn lent<'a>(image: &Option<RecImage<'a>>) -> Option<ImageView<'a>>
     ensures { option_map image_of_view result ≡ option_map kept_image image.now }
 {
     match image {
