@@ -1,10 +1,7 @@
 -- Fields of a record's main data and of a block's data, and the steps that may refuse.
-use Rattle.std.specs.Prelude.{ℕ, zero, suc, ◌+◌, ◌==◌, Bool, not, bit_and, nat_lt, List, [], ◌∷◌, length, drop, Option, Some, None, Result, Ok, Err, if◌then◌else◌}
-use Rattle.std.specs.List.{range_with_len}
+use Rattle.std.specs.Prelude.{ℕ, ◌==◌, Bool, not, bit_and, nat_lt, List, length, drop, Option, Some, None, Result, Ok, Err, if◌then◌else◌}
 use Rattle.pg_types.specs.Numbers.{number_at}
-use Rattle.pg_types.specs.declared.names.Lsn.{Lsn}
-use Rattle.pg_types.specs.declared.names.Tli.{Tli}
-use Rattle.pg_types.specs.declared.names.Xid.{Xid}
+pub use Rattle.record_fields.specs.Fields.{lsn_at, tli_at, xid_at, xids_at, lines_at, first_lines}
 use Rattle.wal_record.specs.Record.{Block, Record, block_by_id}
 use Rattle.wal_bodies.specs.declared.types.BodyFault.{BodyFault}
 use Rattle.wal_bodies.specs.declared.types.BodyFault.TheVariants.{Length}
@@ -22,32 +19,6 @@ result_map f (Ok x) = Ok (f x)
 -- the flag is set
 abbrev pub has : ℕ → ℕ → Bool
 has flags flag = not (bit_and flags flag == 0)
-
--- a position of eight bytes (XLogRecPtr)
-abbrev pub lsn_at : List ℕ → ℕ → Lsn
-lsn_at text at = record { 0 = number_at 8 text at }
-
--- a timeline of four bytes (TimeLineID)
-abbrev pub tli_at : List ℕ → ℕ → Tli
-tli_at text at = record { 0 = number_at 4 text at }
-
--- a transaction id of four bytes (TransactionId)
-abbrev pub xid_at : List ℕ → ℕ → Xid
-xid_at text at = record { 0 = number_at 4 text at }
-
--- n transaction ids that stand one after another
-unfoldable pub xids_at : List ℕ → ℕ → ℕ → List Xid
-xids_at text at zero = []
-xids_at text at (suc n) = xid_at text at ∷ xids_at text (at + 4) n
-
--- n lines of two bytes (OffsetNumber) that stand one after another
-unfoldable pub lines_at : List ℕ → ℕ → ℕ → List ℕ
-lines_at text at zero = []
-lines_at text at (suc n) = number_at 2 text at ∷ lines_at text (at + 2) n
-
--- the first n lines, which are numbered from 1
-unfoldable pub first_lines : ℕ → List ℕ
-first_lines n = range_with_len 1 n
 
 -- a number of n bytes at the front, and what stands behind it
 unfoldable pub number_from : ℕ → List ℕ → Result (ℕ × List ℕ) BodyFault

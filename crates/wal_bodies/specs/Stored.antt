@@ -1,11 +1,9 @@
 -- What the lists of a typed record mean that are read where they stand in the record.
-use Rattle.std.specs.Prelude.{◌≡◌, ℕ, suc, ◌+◌, ◌*◌, ◌-◌, ◌≤◌, ◌<◌, ◌^◌, Bool, true, false, List, [], ◌∷◌, length, Option, Some, None, Result, Ok, Err, IsOk}
-use Rattle.std.specs.List.{range_with_len}
+use Rattle.std.specs.Prelude.{◌≡◌, ℕ, ◌+◌, ◌-◌, ◌≤◌, ◌<◌, List, [], ◌∷◌, length, Option, Some, None, Result, Ok, Err, IsOk}
 use Rattle.wal_record.specs.Record.{Record}
 use Rattle.wal_bodies.specs.declared.types.BodyFault.{BodyFault}
 use Rattle.wal_bodies.specs.declared.types.NewTuple.{NewTuple}
 use Rattle.wal_bodies.specs.declared.types.RecBlock.{RecBlock}
-use Rattle.wal_bodies.specs.Fields.{lines_at}
 use Rattle.wal_bodies.specs.Tuples.{listed_from}
 use Rattle.wal_bodies.specs.Typed.{blocks_from}
 
@@ -18,16 +16,6 @@ optional (Some x) = x ∷ []
 abbrev pub first_of : {A : Type 0} → List A → Option A
 first_of [] = None
 first_of (x ∷ xs) = Some x
-
--- n lines: those that stand in the text from the next one on, or those in a row
-abbrev pub lines_in : Bool → List ℕ → ℕ → ℕ → List ℕ
-lines_in true text next n = lines_at text next n
-lines_in false text next n = range_with_len next n
-
--- they stand within the text, or are numbers of two bytes
-abbrev pub DoLinesStand : Bool → List ℕ → ℕ → ℕ → Type 0
-DoLinesStand true text next n = next + 2 * n ≤ length text
-DoLinesStand false text next n = next + n ≤ 2 ^ 16
 
 abbrev pub if_read : Result (List NewTuple) BodyFault → List NewTuple
 if_read (Ok tuples) = tuples

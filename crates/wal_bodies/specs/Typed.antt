@@ -129,13 +129,3 @@ is_commit head (Lock xmax line bits flags) = false
 is_commit head (MultiInsert flags lines) = false
 is_commit head (LockUpdated xmax line bits flags) = false
 is_commit head Other = false
-
--- the image that the typed form keeps
-abbrev pub kept_image : RecImage → Image
-kept_image image = record { apply = image.apply; hole_at = image.hole_at; bytes = image.bytes }
-
--- the image of the block with this id
-abbrev pub image_with_id : ℕ → List RecBlock → Option Image
-image_with_id id [] = None
-image_with_id id (block ∷ blocks) =
-    if block.id == id then option_map kept_image block.image else image_with_id id blocks

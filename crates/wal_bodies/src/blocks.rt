@@ -6,9 +6,9 @@ ghost use Rattle.wal_bodies.specs.Typed.{ids_of, image_of, block_with, listed_bl
 ghost use Rattle.wal_bodies.specs.Stored.{optional, IsNextBlock};
 
 use crate::fields::main_block;
-use crate::lists::RecBytes;
 use crate::new_tuples::NewTuples;
 use crate::types::{RecBlock, RecImage, RecKind};
+use record_fields::RecBytes;
 use std::marker::Model;
 use wal_record::{BlockView, ImageView, RecordView};
 

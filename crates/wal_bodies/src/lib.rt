@@ -5,7 +5,6 @@
 mod blocks;
 mod fields;
 mod heap;
-mod lists;
 mod new_tuples;
 mod rec;
 mod running;
@@ -16,8 +15,8 @@ mod xact;
 mod xlog;
 
 pub use blocks::RecBlocks;
-pub use lists::{Lines, RecBytes, Xids};
 pub use new_tuples::NewTuples;
 pub use rec::one_form;
+pub use record_fields::{Lines, RecBytes, Xids};
 pub use typed::body;
 pub use types::{BodyFault, NewTuple, Rec, RecBlock, RecImage, RecKind, What};

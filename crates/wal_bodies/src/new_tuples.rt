@@ -3,9 +3,9 @@ ghost use Rattle.std.specs.Iterator.{YieldsFirst, item_count};
 ghost use Rattle.wal_bodies.specs.Tuples.{tuple_with, listed_at, listed_from};
 ghost use Rattle.wal_bodies.specs.Stored.{tuples_at, first_of};
 
-use crate::lists::RecBytes;
 use crate::types::{BodyFault, NewTuple};
 use pg_types::u16_at;
+use record_fields::RecBytes;
 use std::marker::Model;
 
 /// Tuples that a record puts into a block, read where they stand: an iterator. Contracts see it as the

@@ -1,10 +1,8 @@
-ghost use Rattle.std.specs.Prelude.{◌≡◌, option_map};
-ghost use Rattle.wal_record.specs.Views.{image_of_view};
-ghost use Rattle.wal_bodies.specs.Typed.{is_commit, image_with_id, kept_image};
+ghost use Rattle.std.specs.Prelude.{◌≡◌};
+ghost use Rattle.wal_bodies.specs.Typed.{is_commit};
 ghost use Rattle.wal_bodies.specs.Laws.{OneForm, OneRefusal};
 
-use crate::types::{Rec, RecImage, RecKind};
-use wal_record::ImageView;
+use crate::types::{Rec, RecKind};
 
 /// Two laws of the typed form: a record has at most one, and where it is refused it has none, and the
 /// refusal is the only one.
@@ -22,31 +20,5 @@ impl<'a> Rec<'a> {
             RecKind::Ended { .. } => self.head.info & 0x70 == 0x00,
             _ => false,
         }
-    }
-
-    /// The image of the block with this id, if the record has the block and the block an image.
-    pub fn image(&self, id: u8) -> Option<ImageView<'a>>
-        ensures { option_map image_of_view result ≡ image_with_id id self.now.blocks }
-    {
-        for block in self.blocks.again() {
-            if block.id == id {
-                return lent(&block.image);
-            }
-        }
-        None
-    }
-}
-
-/// An image, lent.
-fn lent<'a>(image: &Option<RecImage<'a>>) -> Option<ImageView<'a>>
-    ensures { option_map image_of_view result ≡ option_map kept_image image.now }
-{
-    match image {
-        None => None,
-        Some(image) => Some(ImageView {
-            apply: image.apply,
-            hole_at: image.hole_at,
-            bytes: image.bytes.as_slice(),
-        }),
     }
 }

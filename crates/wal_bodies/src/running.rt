@@ -1,10 +1,9 @@
 ghost use Rattle.std.specs.Prelude.{◌≡◌};
 ghost use Rattle.wal_bodies.specs.Kinds.{running, standby_kind, database_kind, later};
 
-use crate::fields::xid_at;
-use crate::lists::Xids;
 use crate::types::{BodyFault, RecKind, What};
 use pg_types::u32_at;
+use record_fields::{Xids, xid_at};
 
 /// The kinds of a standby's records, by the info's high four bits.
 #[tactic(auto, unfolding(crate::specs::Kinds::standby_kind))]

@@ -6,13 +6,13 @@ ghost use Rattle.wal_bodies.specs.Typed.{is_last, ended_in, names_last, read_as,
 
 use crate::blocks::{RecBlocks, blocks_of};
 use crate::heap::{heap_kind, heap2_kind};
-use crate::lists::Xids;
 use crate::running::{database_kind, later, standby_kind};
 use crate::tuples::tuples_of;
 use crate::types::{BodyFault, Rec, RecKind, What};
 use crate::xact::xact_kind;
 use crate::xlog::xlog_kind;
 use pg_types::{Locator, Lsn, Xid};
+use record_fields::Xids;
 use wal_record::{RecordHead, RecordView};
 
 /// The typed form of a record that begins and ends at these positions, for the described database and

@@ -1,7 +1,7 @@
 use crate::blocks::RecBlocks;
-use crate::lists::{Lines, RecBytes, Xids};
 use crate::new_tuples::NewTuples;
 use pg_types::{Locator, Lsn, Tli, Xid};
+use record_fields::{Lines, RecBytes, Xids};
 use thiserror::Error;
 use wal_record::RecordHead;
 

@@ -2,10 +2,9 @@ ghost use Rattle.std.specs.Prelude.{◌≡◌};
 ghost use Rattle.wal_bodies.specs.Fields.{number_from, behind, result_map};
 ghost use Rattle.wal_bodies.specs.Kinds.{time_from, xinfo_from, behind_database, count_from, counted_xids, subs_from, parts_by, ended, xact_kind};
 
-use crate::fields::i64_at;
-use crate::lists::Xids;
 use crate::types::{BodyFault, RecKind, What};
 use pg_types::u32_at;
+use record_fields::{Xids, i64_at};
 
 /// The kinds of a transaction's records.
 #[tactic(auto, unfolding(crate::specs::Kinds::xact_kind))]

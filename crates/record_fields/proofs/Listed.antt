@@ -2,8 +2,8 @@
 use Rattle.std.proofs.Common.{◌≡◌, ℕ, zero, suc, ◌+◌, Bool, true, false, List, [], ◌∷◌, length, refl, sym, ap}
 use Rattle.std.specs.List.{range_with_len}
 use Rattle.pg_types.specs.Numbers.{number_at}
-use Rattle.wal_bodies.specs.Fields.{xid_at, xids_at, lines_at, first_lines}
-use Rattle.wal_bodies.specs.Stored.{lines_in}
+use Rattle.record_fields.specs.Fields.{xid_at, xids_at, lines_at, first_lines}
+use Rattle.record_fields.specs.Stored.{lines_in}
 
 pub xids_done : (text : List ℕ) (at n : ℕ) → n ≡ 0 → xids_at text at n ≡ []
 unfolding xids_at

@@ -1,6 +1,6 @@
 ghost use Rattle.std.specs.Prelude.{◌≡◌, ◌+◌, ◌*◌, ◌≤◌, ◌^◌, length};
 ghost use Rattle.std.specs.Iterator.{YieldsFirst, item_count};
-ghost use Rattle.wal_bodies.specs.Fields.{xids_at, lines_at, first_lines};
+ghost use Rattle.record_fields.specs.Fields.{xids_at, lines_at, first_lines};
 
 use crate::fields::xid_at;
 use pg_types::{Xid, u16_at};
@@ -51,7 +51,7 @@ impl<'a> Model for Xids<'a> {
 
     ghost Value = { List Xid };
 
-    ghost use Rattle.wal_bodies.specs.Fields.{xids_at};
+    ghost use Rattle.record_fields.specs.Fields.{xids_at};
 
     ghost view = { λ x. xids_at x.text.now x.at x.count };
 
@@ -129,7 +129,7 @@ impl<'a> Model for Lines<'a> {
 
     ghost Value = { List ℕ };
 
-    ghost use Rattle.wal_bodies.specs.Stored.{lines_in, DoLinesStand};
+    ghost use Rattle.record_fields.specs.Stored.{lines_in, DoLinesStand};
 
     ghost view = { λ l. lines_in l.is_listed l.text.now l.next l.count };
 
