@@ -18,7 +18,7 @@ impl Tables {
         requires { table < length self.now.tables }
         ensures { OnOk result (Some out.new.items ≡ option_map (λ t. out.old.items ++ row_text t.columns row.now) (table_at self.now table)) }
     {
-        push_row(self.columns(table), row.cells(), out)
+        push_row(self.columns(table), row.as_slice(), out)
     }
 }
 
