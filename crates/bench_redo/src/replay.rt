@@ -3,7 +3,7 @@ ghost use Rattle.page_store.specs.Content.{table_count};
 
 use anyhow::Result;
 use heap_redo::redo;
-use outside::{FolderArchive, LogBytes};
+use outside::{Folder, LogBytes};
 use page_store::Pool;
 use pg_types::{Locator, Lsn};
 use std::alloc::Global;
@@ -38,7 +38,7 @@ struct Tally {
 
 /// Replays the whole log, and prints how long that took.
 pub fn replay(rt: &HostRuntime) -> Result<()> {
-    let mut archive = FolderArchive::new(rt.alloc(), rt);
+    let mut archive = Folder::archive(rt.alloc(), rt);
     let mut log = ArchiveLog::plain(&mut archive, SEGMENT);
     let mut reader = Reader::start(rt.alloc(), SYSTEM, SEGMENT, Lsn(START), PrevRule::Below)?;
     let mut pool = Pool::plain(rt.alloc(), 1)?;

@@ -2,12 +2,14 @@ ghost use Rattle.std.specs.Prelude.{◌≡◌, ◌<◌, ◌≤◌, ◌^◌, true
 ghost use Rattle.page_store.specs.Content.{content, table_count};
 ghost use Rattle.heap_redo.specs.After.{applied};
 ghost use Rattle.heap_redo.specs.Redone.{seen, view_of, fault_by, fault_outcome, is_anew, is_left, redone_block, view_by, table_of, redone_at, view_outcome, Follows, Stands};
+ghost use Rattle.table_schema.specs.Description.{locators};
 
 use crate::block::{anew, changed, is_anew, is_left};
 use crate::fault::{RedoFault, Refusal, fault_at, pool_fault};
 use heap_page::{HeapPage, shows_page};
 use page_store::Pool;
 use pg_types::{Locator, Tag};
+use table_schema::Tables;
 use wal_bodies::{Rec, RecBlock};
 use wal_record::{ImageView, NewImage};
 
@@ -166,8 +168,21 @@ fn redo_block(
     }
 }
 
-/// Applies a record to the blocks of the described tables, of which `known` has the files in the order of
-/// their numbers. Blocks of other tables are passed over.
+/// Applies a record to the blocks of the tables of which `known` has the files, in the order of their
+/// numbers.
+fn redo_blocks(rec: &Rec, known: &[Locator], pool: &mut Pool) -> Result<(), RedoFault>
+    requires tables { length known.now ≤ table_count pool.old }
+    requires few { length known.now < 2 ^ 16 }
+    ensures answer { Stands rec.now known.now (view_of (content pool.old)) (view_of (content pool.new)) result }
+    ensures tables { table_count pool.new ≡ table_count pool.old }
+{
+    for block in rec.blocks.as_slice() {
+        redo_block(pool, rec, block, known)?;
+    }
+    Ok(())
+}
+
+/// Applies a record to the blocks of the described tables. Blocks of other tables are passed over.
 ///
 /// An image that is to be applied is restored whatever the page's position, and a block that the record
 /// makes anew begins without items. Else the change is skipped where the page's position is at least the
@@ -178,14 +193,10 @@ fn redo_block(
 /// record or after it, the blocks up to one after and the others before, and the record is refused again.
 /// After `Memory` too, and the block at which it came is not refused; a repeated call then leaves what one
 /// call leaves.
-pub fn redo(rec: &Rec, known: &[Locator], pool: &mut Pool) -> Result<(), RedoFault>
-    requires tables { length known.now ≤ table_count pool.old }
-    requires few { length known.now < 2 ^ 16 }
-    ensures answer { Stands rec.now known.now (view_of (content pool.old)) (view_of (content pool.new)) result }
+pub fn redo(rec: &Rec, tables: &Tables, pool: &mut Pool) -> Result<(), RedoFault>
+    requires tables { length tables.now.tables ≤ table_count pool.old }
+    ensures answer { Stands rec.now (locators tables.now) (view_of (content pool.old)) (view_of (content pool.new)) result }
     ensures tables { table_count pool.new ≡ table_count pool.old }
 {
-    for block in rec.blocks.as_slice() {
-        redo_block(pool, rec, block, known)?;
-    }
-    Ok(())
+    redo_blocks(rec, tables.locators(), pool)
 }

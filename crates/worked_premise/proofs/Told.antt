@@ -3,8 +3,8 @@ use Rattle.std.proofs.Common.{◌≡◌, ℕ, List, [], ◌∷◌, Result, Ok, E
 use Rattle.wal_record.specs.declared.types.PrevRule.{PrevRule}
 use Rattle.wal_record.specs.declared.types.PrevRule.TheVariants.{Below, Is}
 use Rattle.wal_reader.specs.declared.types.EndWhy.TheVariants.{Zero}
-use Rattle.wal_reader.specs.declared.types.Stop.{Stop as ReadStop}
-use Rattle.wal_reader.specs.declared.types.Stop.TheVariants.{End}
+use Rattle.wal_reader.specs.declared.types.NoRecord.{NoRecord}
+use Rattle.wal_reader.specs.declared.types.NoRecord.TheVariants.{End}
 use Rattle.wal_reader.specs.Log as reader
 use Rattle.wal_reader.specs.Step.{Entry, step}
 use Rattle.wal_reader.specs.Told.{Told}
@@ -31,7 +31,7 @@ record Meets (told : Told) (from : ℕ) (recs : List Rec) (at : ℕ) (prev : Pre
   link : link_after recs ≡ prev
 
 moved :
-    (told : Told) (from here : ℕ) (link : PrevRule) (recs : List Rec) (found : Result Entry ReadStop)
+    (told : Told) (from here : ℕ) (link : PrevRule) (recs : List Rec) (found : Result Entry NoRecord)
     → end_of from recs ≡ here → link_after recs ≡ link → step told here link ≡ found
     → next_of told described from recs ≡ typed_of described found
 moved told from here link recs found e l is =
