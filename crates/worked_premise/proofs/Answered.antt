@@ -10,12 +10,12 @@ use Rattle.wal_reader.specs.declared.types.EndWhy.TheVariants.{Zero}
 use Rattle.wal_bodies.specs.declared.types.Rec.{Rec}
 use Rattle.heap_tuple.specs.Tuple.{is_lock_only, max_of}
 use Rattle.heap_tuple.specs.Values.{cell_of, cells_from, column_value, has_value, row_of, span_of, varlena_at}
-use Rattle.heap_tuple.specs.declared.tuple_view.MaxOf.TheVariants.{None as NoDeleter}
 use Rattle.heap_redo.specs.After.{tuple_of}
 use Rattle.heap_redo.specs.TupleHeads.{head_bytes}
 use Rattle.transaction_model.specs.Transactions.{committed, first_next, is_settled, state_of}
 use Rattle.xact_redo.specs.TransactionsOf.{transaction_of}
-use Rattle.row_model.specs.Versions.{Version, By, with_step, with_steps}
+use Rattle.row_model.specs.Versions.{Version, with_step, with_steps}
+use Rattle.row_model.specs.WorkedRows.{inserted_by_700}
 use Rattle.row_model.specs.Multixacts.{multixacts}
 use Rattle.row_model.specs.Origins.{committed_in}
 use Rattle.row_model.specs.Rows.{IsRows, OneRows, is_row}
@@ -35,24 +35,9 @@ use Rattle.worked_premise.specs.WorkedSchema.{table_t, tables}
 use Rattle.worked_premise.specs.Premise.{FilesAreAnswered, reply, text, top}
 use Rattle.worked_premise.proofs.Told.{is_log}
 
--- the version that 700 inserted: xmin 700, ctid (0,1), and its masks
+-- the version that 700 inserted
 abbrev inserted : Version
-inserted =
-    record {
-      block = 0;
-      line = 1;
-      inserter = By 700;
-      deleter = NoDeleter;
-      frozen = false;
-      holds = true;
-      tuple =
-          188 ∷ 2 ∷ 0 ∷ 0
-          ∷ 0 ∷ 0 ∷ 0 ∷ 0
-          ∷ 0 ∷ 0 ∷ 0 ∷ 0
-          ∷ 0 ∷ 0 ∷ 0 ∷ 0 ∷ 1 ∷ 0
-          ∷ 2 ∷ 0 ∷ 2 ∷ 8 ∷ 24 ∷ 0
-          ∷ 1 ∷ 0 ∷ 0 ∷ 0 ∷ 9 ∷ 111 ∷ 110 ∷ 101 ∷ [];
-    }
+inserted = inserted_by_700 (1 ∷ 0 ∷ 0 ∷ 0 ∷ 9 ∷ 111 ∷ 110 ∷ 101 ∷ [])
 
 versions_are : versions (origin_with top) (file_of tables 0) log ≡ inserted ∷ []
 unfolding versions block_count steps_in count_with own_steps births births_written whole_steps tuple_of head_bytes with_steps with_step max_of is_lock_only number_at
