@@ -1,6 +1,6 @@
 use crate::{SEGMENT, START, SYSTEM};
 use anyhow::Result;
-use outside::{FolderArchive, LogBytes};
+use outside::{Folder, LogBytes};
 use pg_types::Lsn;
 use std::time::{Duration, Instant};
 use wal_archive::ArchiveLog;
@@ -17,7 +17,7 @@ struct Tally {
 
 /// Reads the whole log, and prints how long that took.
 pub fn read(rt: &HostRuntime) -> Result<()> {
-    let mut archive = FolderArchive::new(rt.alloc(), rt);
+    let mut archive = Folder::archive(rt.alloc(), rt);
     let mut log = ArchiveLog::plain(&mut archive, SEGMENT);
     let mut reader = Reader::start(rt.alloc(), SYSTEM, SEGMENT, Lsn(START), PrevRule::Below)?;
     let begun = Instant::now(rt)?;

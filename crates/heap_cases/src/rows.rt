@@ -30,7 +30,7 @@ impl<'a> fmt::Display for ShowRow<'a> {
     fn fmt<W: fmt::Write>(&self, f: &mut fmt::Formatter<W>) -> fmt::Result {
         write!(f, "(")?;
         let mut between = "";
-        for cell in self.0.cells() {
+        for cell in self.0.as_slice() {
             let cell = ShowCell(cell);
             write!(f, "{between}{cell}")?;
             between = ", ";
@@ -59,7 +59,7 @@ fn values_text(alloc: Global, view: &TupleView<'_>, columns: &[Column]) -> Resul
 /// The cells of a row, copied one by one.
 fn copied_text(alloc: Global, row: &Row) -> Result<String, Wrong> {
     let mut copy = Row::new(alloc);
-    for cell in row.cells() {
+    for cell in row.as_slice() {
         copy.push(cell.copy(alloc)?)?;
     }
     let text = ShowRow(&copy);

@@ -1,8 +1,7 @@
-ghost use Rattle.std.specs.Prelude.{◌≡◌, [], ◌∷◌, ◌++◌, IfOk, OnOk, OnErr};
+ghost use Rattle.std.specs.Prelude.{◌≡◌, IfOk};
 
-use pg_types::{Bytes, NoMemory};
+use pg_types::{Bytes, List, NoMemory};
 use std::alloc::Global;
-use std::marker::Model;
 
 /// The types of column that are described. `Raw4` and `Raw8` are values of that many bytes which are
 /// shown as they are stored.
@@ -52,43 +51,5 @@ pub struct Column {
     pub missing: Option<Cell>,
 }
 
-/// The cells of a row, one for each described column. Contracts see it as their list.
-#[derive(Debug, Drop)]
-pub struct Row {
-    cells: Vec<Cell>,
-}
-
-impl Model for Row {
-    ghost use Rattle.std.specs.Prelude.{List};
-    ghost use Rattle.heap_tuple.specs.declared.cell.Cell.{Cell};
-
-    ghost Value = { List Cell };
-
-    ghost view = { λ r. r.cells.items };
-}
-
-impl Row {
-    /// No cells, and no memory taken.
-    pub fn new(alloc: Global) -> Row
-        ensures { result ≡ [] }
-    {
-        Row {
-            cells: Vec::new(alloc),
-        }
-    }
-
-    /// Puts a cell behind those that are there.
-    pub fn push(&mut self, cell: Cell) -> Result<(), NoMemory>
-        ensures ok { OnOk result (self.new ≡ self.old ++ cell ∷ []) }
-        ensures err { OnErr result (self.new ≡ self.old) }
-    {
-        self.cells.push(cell)?;
-        Ok(())
-    }
-
-    pub fn cells(&self) -> &[Cell]
-        ensures { result.now ≡ self.now }
-    {
-        self.cells.as_slice()
-    }
-}
+/// The cells of a row, one for each described column.
+pub type Row = List<Cell>;

@@ -5,7 +5,7 @@ use Rattle.outside.specs.Archive.{HaveBytes}
 use Rattle.wal_archive.specs.ArchiveLog.{archived_byte}
 use Rattle.wal_archive.specs.Bytes.{archived_byte_below}
 use Rattle.wal_record.specs.declared.types.PrevRule.{PrevRule}
-use Rattle.wal_reader.specs.declared.types.Stop.{Stop as ReadStop}
+use Rattle.wal_reader.specs.declared.types.NoRecord.{NoRecord}
 use Rattle.wal_reader.specs.Step.{Entry, step}
 use Rattle.wal_reader.specs.Told.{Told}
 use Rattle.wal_bodies.specs.declared.types.BodyFault.{BodyFault}
@@ -22,7 +22,7 @@ typed_ok (Err fault) rec e = cc
 
 record_fits :
     ToldNumbersFit → (told : Told) (described : Described) (at : ℕ) (prev : PrevRule) (rec : Rec) → TellsBytes told
-    → (found : Result Entry ReadStop) → step told at prev ≡ found → typed_of described found ≡ Ok rec → RecordFits rec
+    → (found : Result Entry NoRecord) → step told at prev ≡ found → typed_of described found ≡ Ok rec → RecordFits rec
 record_fits fits told described at prev rec tells (Ok entry) e t =
     fits told at prev entry (record { 0 = entry.start }) (record { 0 = entry.end }) described.database described.files rec tells e
     (typed_ok (typed_at described entry) rec t)

@@ -1,4 +1,4 @@
--- What an archive of log segments gives.
+-- What an archive of log segments gives, and the folder of a base backup.
 use Rattle.std.specs.Prelude.{ℕ, ◌≡◌, ◌≤◌, List, length, take, drop, All, ◌<◌, Option, None, Some, Result, IfOk, IfSome}
 use Rattle.pg_types.specs.declared.fail.Fail.{Fail}
 

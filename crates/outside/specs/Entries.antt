@@ -1,15 +1,15 @@
--- The files of an archive in memory.
+-- Files in memory.
 use Rattle.std.proofs.Common.{ℕ, List, [], ◌∷◌, Bool, true, false, cond, Some, IfSome}
 use Rattle.std.specs.Prelude.{map}
 use Rattle.std.specs.Str.{bytes_eq}
 use Rattle.outside.specs.Archive.{AreBytes, HaveBytes}
 use Rattle.outside.specs.Memory.{file_named}
-use Rattle.outside.specs.declared.memory_archive.SteadyArchive.{SteadyArchive}
+use Rattle.outside.specs.declared.memory_files.SteadyFiles.{SteadyFiles}
 use Rattle.outside.specs.declared.stored.StoredFile.{StoredFile}
 
 -- the name and the contents of each file, the newest first
-abbrev pub entries : SteadyArchive → List (List ℕ × List ℕ)
-entries archive = map (λ (file : StoredFile). (file.name, file.contents)) archive.files.items
+abbrev pub entries : SteadyFiles → List (List ℕ × List ℕ)
+entries held = map (λ (file : StoredFile). (file.name, file.contents)) held.files.items
 
 named_bytes : (files : List StoredFile) (name : List ℕ) → IfSome (file_named (map (λ (file : StoredFile). (file.name, file.contents)) files) name) AreBytes
 named_bytes [] name = tt
@@ -20,5 +20,5 @@ named_bytes (file ∷ files) name = by (named_bytes files name) (bytes_eq file.n
     by rest true = file.bytes
     by rest false = rest
 
-pub entries_have_bytes : (archive : SteadyArchive) → HaveBytes (Some (file_named (entries archive)))
-entries_have_bytes archive = λ name. named_bytes archive.files.items name
+pub entries_have_bytes : (held : SteadyFiles) → HaveBytes (Some (file_named (entries held)))
+entries_have_bytes held = λ name. named_bytes held.files.items name

@@ -5,4 +5,7 @@ pub mod Faults
 pub mod Log
 pub mod LogEnds
 pub mod Memory
+pub mod Plan
 pub mod Sink
+pub mod Source
+pub mod Texts

@@ -7,7 +7,7 @@ ghost use Rattle.outside.specs.LogEnds.{text_from_ends};
 
 use crate::faults::FaultPlan;
 use crate::log::LogBytes;
-use crate::memory_archive::read_at;
+use crate::memory_files::read_at;
 use pg_types::{Bytes, Fail, Lsn, NoMemory, Tli};
 use std::alloc::Global;
 use std::marker::Model;

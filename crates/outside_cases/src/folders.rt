@@ -2,7 +2,7 @@
 
 use crate::archives::fetches;
 use case_text::{Wrong, bytes};
-use outside::FolderArchive;
+use outside::Folder;
 use std::fs;
 
 /// What is made: `folder PATH`, `file PATH HEX` ..; then `fetch NAME AT MOST ..`.
@@ -22,7 +22,7 @@ pub fn answer(rt: &HostRuntime, question: &[&str]) -> Result<(), Wrong> {
             _ => break,
         }
     }
-    let mut archive = FolderArchive::new(rt.alloc(), rt);
+    let mut archive = Folder::archive(rt.alloc(), rt);
     fetches(rt, &mut archive, rest)?;
     take_away(rt)
 }

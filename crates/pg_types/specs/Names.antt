@@ -1,14 +1,15 @@
 -- How positions and segments are written.
-use Rattle.std.specs.Prelude.{ℕ, zero, suc, ◌≡◌, ◌<◌, ◌+◌, ◌*◌, length, ◌≤◌, ◌^◌, ◌/◌, ◌%◌, List, [], ◌∷◌, ◌++◌, true}
+use Rattle.std.specs.Prelude.{ℕ, zero, suc, ◌≡◌, ◌==◌, ◌<◌, ◌+◌, ◌*◌, length, ◌≤◌, ◌^◌, ◌/◌, ◌%◌, Bool, List, [], ◌∷◌, ◌++◌, true, IsTrue}
+use Rattle.std.specs.List.{list_any, range_with_len}
 use Rattle.std.specs.Fmt.{digits, digit_glyph}
 use Rattle.std.specs.Str.Parse.{AllDigits, digits_value}
 
 -- a segment has a power of two of bytes, from 1 MiB to 1 GiB (IsValidWalSegSize, xlog_internal.h)
-pub record IsSegmentSize (size : ℕ) : Type 0 where
-  pub exponent : ℕ
-  pub low : 20 ≤ exponent
-  pub high : exponent ≤ 30
-  pub power : size ≡ 2 ^ exponent
+unfoldable pub is_segment_size : ℕ → Bool
+is_segment_size size = list_any (λ power. size == 2 ^ power) (range_with_len 20 11)
+
+abbrev pub IsSegmentSize : ℕ → Type 0
+IsSegmentSize size = IsTrue (is_segment_size size)
 
 -- a position is written as its high and low 32 bits in upper-case hex without leading zeros (%X/%X, xlogdefs.h)
 unfoldable pub lsn_text : ℕ → List ℕ

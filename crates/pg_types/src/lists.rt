@@ -5,38 +5,37 @@ use crate::names::Xid;
 use std::alloc::Global;
 use std::marker::Model;
 
-/// A text of bytes. Contracts see it as the list of its bytes.
+/// Items in a row. Contracts see it as the list of them.
 #[derive(Debug, Drop)]
-pub struct Bytes {
-    vec: Vec<u8>,
+pub struct List<T> {
+    vec: Vec<T>,
 }
 
-impl Model for Bytes {
-    ghost use Rattle.std.specs.Prelude.{List, ℕ};
+/// A text of bytes.
+pub type Bytes = List<u8>;
 
-    ghost Value = { List ℕ };
+/// Transaction ids in a row.
+pub type XidList = List<Xid>;
 
-    ghost view = { λ bytes. bytes.vec.items };
+impl<T> Model for List<T> {
+    ghost use Rattle.std.specs.Prelude.{List as Items};
+
+    ghost Value = { Items T };
+
+    ghost view = { λ list. list.vec.items };
 }
 
-impl Bytes {
-    /// No bytes. It takes no memory.
-    pub fn new(alloc: Global) -> Bytes
+impl<T> List<T> {
+    /// No items. It takes no memory.
+    pub fn new(alloc: Global) -> List<T>
         ensures { result ≡ [] }
     {
-        Bytes {
+        List {
             vec: Vec::new(alloc),
         }
     }
 
-    pub fn from_slice(alloc: Global, bytes: &[u8]) -> Result<Bytes, NoMemory>
-        ensures { IfOk result (λ copy. copy ≡ bytes.now) }
-    {
-        let vec = Vec::from_slice(alloc, bytes)?;
-        Ok(Bytes { vec })
-    }
-
-    pub fn as_slice(&self) -> &[u8]
+    pub fn as_slice(&self) -> &[T]
         ensures { result.now ≡ self.now }
     {
         self.vec.as_slice()
@@ -53,25 +52,19 @@ impl Bytes {
     {
         self.vec.is_empty()
     }
+}
 
-    pub fn push(&mut self, byte: u8) -> Result<(), NoMemory>
-        ensures ok { OnOk result (self.new ≡ self.old ++ byte ∷ []) }
+impl<T: Drop> List<T> {
+    /// Adds an item at the end. Where memory runs out the item is dropped.
+    pub fn push(&mut self, item: T) -> Result<(), NoMemory>
+        ensures ok { OnOk result (self.new ≡ self.old ++ item ∷ []) }
         ensures err { OnErr result (self.new ≡ self.old) }
     {
-        self.vec.push(byte)?;
+        self.vec.push(item)?;
         Ok(())
     }
 
-    /// Adds the bytes at the end.
-    pub fn append(&mut self, bytes: &[u8]) -> Result<(), NoMemory>
-        ensures ok { OnOk result (self.new ≡ self.old ++ bytes.now) }
-        ensures err { OnErr result (self.new ≡ self.old) }
-    {
-        self.vec.extend_from_slice(bytes)?;
-        Ok(())
-    }
-
-    /// Takes all bytes away. The memory stays for later bytes.
+    /// Takes all items away. The memory stays for later ones.
     pub fn clear(&mut self)
         ensures { self.new ≡ [] }
     {
@@ -79,68 +72,20 @@ impl Bytes {
     }
 }
 
-/// Transaction ids in a row. Contracts see them as a list.
-#[derive(Debug, Drop)]
-pub struct XidList {
-    vec: Vec<Xid>,
-}
-
-impl Model for XidList {
-    ghost use Rattle.std.specs.Prelude.{List};
-    ghost use Rattle.pg_types.specs.declared.names.Xid.{Xid};
-
-    ghost Value = { List Xid };
-
-    ghost view = { λ xids. xids.vec.items };
-}
-
-impl XidList {
-    /// No ids. It takes no memory.
-    pub fn new(alloc: Global) -> XidList
-        ensures { result ≡ [] }
+impl<T: Copy> List<T> {
+    pub fn from_slice(alloc: Global, items: &[T]) -> Result<List<T>, NoMemory>
+        ensures { IfOk result (λ copy. copy ≡ items.now) }
     {
-        XidList {
-            vec: Vec::new(alloc),
-        }
+        let vec = Vec::from_slice(alloc, items)?;
+        Ok(List { vec })
     }
 
-    pub fn from_slice(alloc: Global, xids: &[Xid]) -> Result<XidList, NoMemory>
-        ensures { IfOk result (λ copy. copy ≡ xids.now) }
-    {
-        let vec = Vec::from_slice(alloc, xids)?;
-        Ok(XidList { vec })
-    }
-
-    pub fn as_slice(&self) -> &[Xid]
-        ensures { result.now ≡ self.now }
-    {
-        self.vec.as_slice()
-    }
-
-    pub fn len(&self) -> usize
-        ensures { result ≡ length self.now }
-    {
-        self.vec.len()
-    }
-
-    pub fn is_empty(&self) -> bool
-        ensures { result ≡ (length self.now == 0) }
-    {
-        self.vec.is_empty()
-    }
-
-    pub fn push(&mut self, xid: Xid) -> Result<(), NoMemory>
-        ensures ok { OnOk result (self.new ≡ self.old ++ xid ∷ []) }
+    /// Adds the items at the end.
+    pub fn append(&mut self, items: &[T]) -> Result<(), NoMemory>
+        ensures ok { OnOk result (self.new ≡ self.old ++ items.now) }
         ensures err { OnErr result (self.new ≡ self.old) }
     {
-        self.vec.push(xid)?;
+        self.vec.extend_from_slice(items)?;
         Ok(())
-    }
-
-    /// Takes all ids away. The memory stays for later ones.
-    pub fn clear(&mut self)
-        ensures { self.new ≡ [] }
-    {
-        self.vec.clear();
     }
 }

@@ -204,7 +204,7 @@ fn push_row(alloc: Global, row: &Row, text: &mut Vec<u8>) -> Result<(), NoMemory
     ensures { OnOk result (text.new.items ≡ text.old.items ++ row_line row.now) }
 {
     text.extend_from_slice(b"row ")?;
-    push_values(alloc, row.cells(), text)?;
+    push_values(alloc, row.as_slice(), text)?;
     text.push(b'\n')?;
     Ok(())
 }

@@ -3,7 +3,7 @@ use Rattle.std.proofs.Common.{◌≡◌, ℕ, ◌<◌, List, [], ◌∷◌, leng
 use Rattle.std.proofs.lemmas.Bool.{cases_order, cases_eq}
 use Rattle.pg_types.specs.declared.names.Lsn.{Lsn}
 use Rattle.wal_record.specs.declared.types.PrevRule.{PrevRule}
-use Rattle.wal_reader.specs.declared.types.Stop.{Stop as ReadStop}
+use Rattle.wal_reader.specs.declared.types.NoRecord.{NoRecord}
 use Rattle.wal_reader.specs.Log.{StepsOn}
 use Rattle.wal_reader.specs.Step.{Entry, step}
 use Rattle.wal_reader.specs.Told.{Told}
@@ -73,7 +73,7 @@ formed_end head start end (Ok x) rec e =
 formed_end head start end (Err refusal) rec e = cc
 
 typed_end :
-    (described : Described) (found : Result Entry ReadStop) (rec : Rec) → typed_of described found ≡ Ok rec
+    (described : Described) (found : Result Entry NoRecord) (rec : Rec) → typed_of described found ≡ Ok rec
     → (entry : Entry) × (found ≡ Ok entry) × (rec.end.0 ≡ entry.end)
 unfolding typed
 typed_end described (Ok entry) rec e = (

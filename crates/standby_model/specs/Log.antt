@@ -6,8 +6,8 @@ use Rattle.pg_types.specs.declared.names.Locator.{Locator}
 use Rattle.wal_record.specs.declared.types.PrevRule.{PrevRule}
 use Rattle.wal_record.specs.declared.types.PrevRule.TheVariants.{Below, Is}
 use Rattle.wal_reader.specs.declared.types.EndWhy.{EndWhy}
-use Rattle.wal_reader.specs.declared.types.Stop.{Stop as ReadStop}
-use Rattle.wal_reader.specs.declared.types.Stop.TheVariants as reader
+use Rattle.wal_reader.specs.declared.types.NoRecord.{NoRecord}
+use Rattle.wal_reader.specs.declared.types.NoRecord.TheVariants as reader
 use Rattle.wal_reader.specs.Step.{Entry, step}
 use Rattle.wal_reader.specs.Told.{Told}
 use Rattle.wal_bodies.specs.declared.types.Rec.{Rec}
@@ -34,16 +34,14 @@ pub data Stop : Type 0 where
   Ended : (why : EndWhy) → Stop
   Refused : (what : Refusal) → Stop
 
-abbrev pub stop_by : ReadStop → Stop
+abbrev pub stop_by : NoRecord → Stop
 stop_by (reader.End why) = Ended why
 stop_by reader.Compressed = Refused Compressed
 stop_by reader.TooLong = Refused TooLong
 
--- The typed form is a function of the record and wants no memory, so its fault is never the last one.
 abbrev pub refusal_by : BodyFault → Refusal
-refusal_by (body.Length lsn) = Length
-refusal_by (body.Unsupported lsn what) = Unsupported what
-refusal_by body.Memory = Length
+refusal_by body.Length = Length
+refusal_by (body.Unsupported what) = Unsupported what
 
 abbrev pub unless_refused : Result Rec BodyFault → Result Rec Stop
 unless_refused (Ok rec) = Ok rec
@@ -54,7 +52,7 @@ abbrev pub typed_at : Described → Entry → Result Rec BodyFault
 typed_at described entry =
     typed entry.record_ (record { 0 = entry.start }) (record { 0 = entry.end }) described.database described.files
 
-abbrev pub typed_of : Described → Result Entry ReadStop → Result Rec Stop
+abbrev pub typed_of : Described → Result Entry NoRecord → Result Rec Stop
 typed_of described (Ok entry) = unless_refused (typed_at described entry)
 typed_of described (Err why) = Err (stop_by why)
 

@@ -1,5 +1,5 @@
 -- What a description says: a database, and its tables in the order of the text.
-use Rattle.std.specs.Prelude.{ℕ, ◌+◌, Bool, ◌&&◌, ◌==◌, List, [], ◌∷◌, Option, Some, None, nat_eq, slice_get, if◌then◌else◌}
+use Rattle.std.specs.Prelude.{ℕ, ◌+◌, Bool, ◌&&◌, ◌==◌, List, [], ◌∷◌, Option, Some, None, map, nat_eq, slice_get, if◌then◌else◌}
 use Rattle.std.specs.Cmp.Lexicographic.{pointwise}
 use Rattle.pg_types.specs.declared.names.Locator.{Locator}
 use Rattle.heap_tuple.specs.declared.cell.Column.{Column}
@@ -23,6 +23,10 @@ table_at described table = slice_get described.tables table
 -- the table's file, in the default tablespace (pg_default, 1663)
 abbrev pub locator_in : ℕ → DescribedTable → Locator
 locator_in database table = record { space = 1663; db = database; rel = table.file }
+
+-- the tables' files, in order of their numbers
+abbrev pub locators : Description → List Locator
+locators described = map (locator_in described.database) described.tables
 
 -- the number of the first that passes a test, where the first one has this number
 abbrev pub first_that : {A : Type 0} → (A → Bool) → ℕ → List A → Option ℕ

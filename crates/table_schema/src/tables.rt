@@ -1,5 +1,5 @@
-ghost use Rattle.std.specs.Prelude.{◌≡◌, ◌<◌, ◌≤◌, length, map, Some, slice_get, option_map, option_and_then, IfSome, IfOk};
-ghost use Rattle.table_schema.specs.Description.{Description, DescribedTable, locator_in, table_at};
+ghost use Rattle.std.specs.Prelude.{◌≡◌, ◌<◌, ◌≤◌, length, Some, slice_get, option_map, option_and_then, IfSome, IfOk};
+ghost use Rattle.table_schema.specs.Description.{Description, DescribedTable, locator_in, locators, table_at};
 
 use crate::name::Name;
 use heap_tuple::Column;
@@ -82,15 +82,10 @@ impl Described {
     }
 
     pub fn columns(&self) -> &[Column]
-        ensures { result.now ≡ self.now.columns }
+        ensures columns { result.now ≡ self.now.columns }
+        ensures named { length self.now.column_names ≡ length self.now.columns }
     {
         self.read.columns.as_slice()
-    }
-
-    pub fn column_names(&self) -> &[Name]
-        ensures { result.now ≡ self.now.column_names }
-    {
-        self.read.names.as_slice()
     }
 
     fn locator(&self, database: u32) -> Locator
@@ -155,7 +150,8 @@ impl Tables {
 
     /// The files of the tables, in order of their numbers.
     pub fn locators(&self) -> &[Locator]
-        ensures files { result.now ≡ map (locator_in self.now.database) self.now.tables }
+        ensures files { result.now ≡ locators self.now }
+        ensures count { length result.now ≡ length self.now.tables }
         ensures few { length result.now ≤ 256 }
     {
         self.locators.as_slice()
@@ -195,7 +191,8 @@ impl Tables {
     /// The columns of a table.
     pub fn columns(&self, table: u16) -> &[Column]
         requires { table < length self.now.tables }
-        ensures { Some result.now ≡ option_map (λ t. t.columns) (table_at self.now table) }
+        ensures columns { Some result.now ≡ option_map (λ t. t.columns) (table_at self.now table) }
+        ensures named { IfSome (table_at self.now table) (λ t. length t.column_names ≡ length t.columns) }
     {
         self.table(table).columns()
     }

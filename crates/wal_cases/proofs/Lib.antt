@@ -1,2 +1,1 @@
 mod NewBlocks
-mod Sizes

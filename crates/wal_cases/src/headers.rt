@@ -4,8 +4,8 @@ ghost use Rattle.std.specs.Bool.{OnTrue};
 ghost use Rattle.wal_page.specs.Page.{HasInfo};
 
 use case_text::{ShowHex, ShowPosition, Wrong, number_u32, number_u64, position};
-use pg_types::Tli;
-use wal_page::{Expect, PageFault, PageHead, is_segment_size, read_page_header, write_page_header};
+use pg_types::{Tli, is_segment_size};
+use wal_page::{Expect, PageFault, PageHead, read_page_header, write_page_header};
 
 pub fn answer(rt: &HostRuntime, question: &[&str], text: &[u8]) -> Result<(), Wrong> {
     match *question {

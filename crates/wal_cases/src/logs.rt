@@ -2,9 +2,8 @@
 use crate::records::prev_rule;
 use case_text::{ShowPosition, Wrong, number_u64, position};
 use outside::{MemoryLog, SteadyLog};
-use pg_types::Lsn;
+use pg_types::{Lsn, is_segment_size};
 use std::alloc::Global;
-use wal_page::is_segment_size;
 use wal_reader::{EndWhy, Next, ReadFault, Reader};
 use wal_record::PrevRule;
 

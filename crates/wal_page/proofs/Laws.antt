@@ -8,7 +8,8 @@ use Rattle.pg_types.specs.Numbers.{number_at}
 use Rattle.pg_types.specs.declared.names.Tli.{Tli}
 use Rattle.wal_page.specs.declared.Expect.{Expect}
 use Rattle.wal_page.specs.declared.PageHead.{PageHead}
-use Rattle.wal_page.specs.Page.{is_segment_size, magic_in, info_in, tli_in, address_in, rem_in, system_in, size_in, block_in, is_long_due, has_info, rules, head_in, page_header, long_text, header_with, HasInfo, Fits, IsExpectedAt, IsExpected, WrittenIsRead, ReadIsWritten}
+use Rattle.pg_types.specs.Names.{is_segment_size}
+use Rattle.wal_page.specs.Page.{magic_in, info_in, tli_in, address_in, rem_in, system_in, size_in, block_in, is_long_due, has_info, rules, head_in, page_header, long_text, header_with, HasInfo, Fits, IsExpectedAt, IsExpected, WrittenIsRead, ReadIsWritten}
 use Rattle.pg_types.proofs.SpelledNumbers.{AreBytes, spelled_at, read_back}
 use Rattle.std.proofs.lemmas.List.Elements.{All-drop}
 use Rattle.byteorder.specs.Numbers.{little_from-lt}

@@ -1,22 +1,18 @@
 -- The header of a WAL page (XLogPageHeaderData, XLogLongPageHeaderData, xlog_internal.h), and the rules
 -- by which a reader takes it (XLogReaderValidatePageHeader, xlogreader.c).
-use Rattle.std.specs.Prelude.{ℕ, ◌-◌, ◌%◌, ◌^◌, ◌<◌, ◌≡◌, ◌==◌, Bool, true, false, ◌&&◌, ◌||◌, not, nat_le, nat_lt, bit_and, Option, Some, None, Result, Ok, Err, List, [], ◌∷◌, ◌++◌, length, if◌then◌else◌, is_some, IsTrue, IfSome, IsSomeAnd, All}
+use Rattle.std.specs.Prelude.{ℕ, ◌-◌, ◌%◌, ◌^◌, ◌<◌, ◌≡◌, ◌==◌, Bool, true, false, ◌&&◌, ◌||◌, not, nat_le, nat_lt, bit_and, Option, Some, None, Result, Ok, Err, List, [], ◌∷◌, ◌++◌, length, if◌then◌else◌, is_some, IfSome, IsSomeAnd, All}
 use Rattle.std.specs.Option.{ForSome}
-use Rattle.std.specs.List.{list_any, range_with_len}
 use Rattle.byteorder.specs.Endian.{little_bytes}
+use Rattle.pg_types.specs.Names.{IsSegmentSize, is_segment_size}
 use Rattle.pg_types.specs.Numbers.{number_at}
 use Rattle.wal_page.specs.declared.Expect.{Expect}
 use Rattle.wal_page.specs.declared.PageHead.{PageHead}
 use Rattle.wal_page.specs.declared.PageFault.{PageFault}
 use Rattle.wal_page.specs.declared.PageFault.TheVariants.{Short, Magic, Info, Address, Timeline, System, Sizes}
 
--- a segment has a power of two of bytes, from 1 MiB to 1 GiB (initdb, --wal-segsize)
-unfoldable pub is_segment_size : ℕ → Bool
-is_segment_size size = list_any (λ power. size == 2 ^ power) (range_with_len 20 11)
-
 -- a segment size that is known is one that is allowed
 abbrev pub KnowsSegments : Expect → Type 0
-KnowsSegments expect = IfSome expect.known (λ known. IsTrue (is_segment_size known.1))
+KnowsSegments expect = IfSome expect.known (λ known. IsSegmentSize known.1)
 
 -- The fields, by their offsets (xlog_internal.h).
 abbrev pub magic_in : List ℕ → ℕ
@@ -143,7 +139,7 @@ pub record Fits (head : PageHead) : Type 0 where
 -- the header is long where that is due, with the known sizes or an allowed one, and names the page's position
 abbrev pub IsExpectedAt : PageHead → ℕ → Option (ℕ × ℕ) → Type 0
 IsExpectedAt head at None =
-    IsSomeAnd head.long (λ sizes. IsTrue (is_segment_size sizes.1) × (head.at.0 ≡ at - at % sizes.1))
+    IsSomeAnd head.long (λ sizes. IsSegmentSize sizes.1 × (head.at.0 ≡ at - at % sizes.1))
 IsExpectedAt head at (Some known) =
     (head.at.0 ≡ at) × (head.long ≡ (if at % known.1 == 0 then Some known else None))
 

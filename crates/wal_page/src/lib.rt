@@ -3,11 +3,12 @@
 
 ghost use Rattle.std.specs.Prelude.{◌≡◌, ◌==◌, ◌%◌, ◌≤◌, ◌++◌, length, drop, IsTrue, IsNone, IfSome};
 ghost use Rattle.byteorder.specs.Endian.{little_bytes};
+ghost use Rattle.pg_types.specs.Names.{IsSegmentSize};
 ghost use Rattle.wal_page.specs.Page.{KnowsSegments, page_header, header_length, header_text, long_text, HasInfo, WrittenIsRead, ReadIsWritten};
 ghost use Rattle.wal_page.specs.Page as spec;
 
 use byteorder::{ByteOrder, LittleEndian};
-use pg_types::{Lsn, Tli, u16_at, u32_at, u64_at};
+use pg_types::{Lsn, Tli, is_segment_size, u16_at, u32_at, u64_at};
 use thiserror::Error;
 
 /// What a reader knows of a page before it reads it.
@@ -92,29 +93,8 @@ pub fn read_page_header(bytes: &[u8], at: Lsn, expect: &Expect) -> Result<PageHe
     Ok(head_in(bytes, long))
 }
 
-/// Whether a segment may have so many bytes.
-#[tactic(auto, unfolding(crate::specs::Page::is_segment_size))]
-pub fn is_segment_size(size: u32) -> bool
-    ensures { result ≡ spec.is_segment_size size }
-{
-    matches!(
-        size,
-        0x10_0000
-            | 0x20_0000
-            | 0x40_0000
-            | 0x80_0000
-            | 0x100_0000
-            | 0x200_0000
-            | 0x400_0000
-            | 0x800_0000
-            | 0x1000_0000
-            | 0x2000_0000
-            | 0x4000_0000
-    )
-}
-
 fn is_long_due(known: &Option<(u64, u32)>, at: Lsn) -> bool
-    requires { IfSome known.now (λ known. IsTrue (spec.is_segment_size known.1)) }
+    requires { IfSome known.now (λ known. IsSegmentSize known.1) }
     ensures { result ≡ spec.is_long_due known.now at.0 }
 {
     match known {
@@ -123,9 +103,9 @@ fn is_long_due(known: &Option<(u64, u32)>, at: Lsn) -> bool
     }
 }
 
-#[tactic(auto, unfolding(crate::specs::Page::is_segment_size))]
+#[tactic(auto, unfolding(pg_types::specs::Names::is_segment_size))]
 fn starts_segment(at: Lsn, size: u32) -> bool
-    requires { IsTrue (spec.is_segment_size size) }
+    requires { IsSegmentSize size }
     ensures { result ≡ (at.0 % size == 0) }
 {
     at.0 % u64::from(size) == 0
@@ -145,7 +125,7 @@ fn has_info(bytes: &[u8], long: bool) -> bool
     info < 16 && info & LONG_HEADER == if long { LONG_HEADER } else { 0 }
 }
 
-#[tactic(auto, unfolding(crate::specs::Page::is_segment_size))]
+#[tactic(auto, unfolding(pg_types::specs::Names::is_segment_size))]
 fn has_address(bytes: &[u8], at: Lsn, known: &Option<(u64, u32)>) -> bool
     requires short { 16 ≤ length bytes.now }
     requires long { IsNone known.now → 40 ≤ length bytes.now }

@@ -8,7 +8,7 @@ use Rattle.wal_page.specs.declared.PageFault.{PageFault}
 use Rattle.wal_page.specs.Page.{page_header}
 use Rattle.wal_reader.specs.declared.types.Halt.{Halt}
 use Rattle.wal_reader.specs.declared.types.Halt.TheVariants.{Stops}
-use Rattle.wal_reader.specs.declared.types.Stop.TheVariants.{End}
+use Rattle.wal_reader.specs.declared.types.NoRecord.TheVariants.{End}
 use Rattle.wal_reader.specs.declared.types.EndWhy.TheVariants.{Missing}
 use Rattle.wal_reader.specs.declared.types.Trouble.{Trouble}
 use Rattle.wal_reader.specs.declared.types.Trouble.TheVariants.{Halts, Log, Memory}

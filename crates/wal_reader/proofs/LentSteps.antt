@@ -6,30 +6,30 @@ use Rattle.wal_record.specs.declared.types.PrevRule.{PrevRule}
 use Rattle.wal_record.specs.declared.types.RecordFault.{RecordFault}
 use Rattle.wal_record.specs.Record.{Record}
 use Rattle.wal_record.specs.Decoded.{decoded}
-use Rattle.wal_reader.specs.declared.types.Found.{Found}
 use Rattle.wal_reader.specs.declared.types.Halt.{Halt}
 use Rattle.wal_reader.specs.declared.types.Halt.TheVariants.{Stops}
+use Rattle.wal_reader.specs.declared.types.Taken.{Taken}
 use Rattle.wal_reader.specs.declared.types.Trouble.{Trouble}
 use Rattle.wal_reader.specs.declared.types.Trouble.TheVariants.{Halts, Log, Memory}
 use Rattle.wal_reader.specs.Told.{Told, told_bytes}
 use Rattle.wal_reader.specs.Kept.{IsInPage, piece_of}
 use Rattle.wal_reader.specs.Step.{Entry, attempt, unless_faulty, stop_of}
 use Rattle.wal_reader.specs.Calls.{Gathering, trouble_of}
-use Rattle.wal_reader.specs.Records.{SaysGathered, SaysEntry, SaysEnd}
+use Rattle.wal_reader.specs.Records.{SaysGathered, SaysAttempt, SaysEnd}
 use Rattle.wal_reader.proofs.InPage.{attempt_in_page, entry_of}
 
 -- the end that was found, with its text
-abbrev pub found_of : Result ℕ Trouble → Option ℕ → Result Found Trouble
-found_of (Ok end) lent = Ok (record { end = end; lent = lent })
-found_of (Err trouble) lent = Err trouble
+abbrev pub taken_of : ℕ → Result ℕ Trouble → Option ℕ → Result Taken Trouble
+taken_of start (Ok end) lent = Ok (record { start = start; end = end; lent = lent })
+taken_of start (Err trouble) lent = Err trouble
 
-pub fault_says : (failed : Fail) (source : Gathering) (start : ℕ) (prev : PrevRule) (expected : Result Entry Halt)
-    → SaysEntry (Err (trouble_of failed)) source start prev expected
-fault_says fail.Failed source start prev expected = tt
-fault_says fail.Memory source start prev expected = tt
+pub fault_says : (failed : Fail) (source : Gathering) (prev : PrevRule) (expected : Result Entry Halt)
+    → SaysAttempt (Err (trouble_of failed)) source prev expected
+fault_says fail.Failed source prev expected = tt
+fault_says fail.Memory source prev expected = tt
 
 pub gathered_says : (r : Result ℕ Trouble) (source : Gathering) (start : ℕ) (prev : PrevRule) (expected : Result Entry Halt)
-    → SaysGathered r source.text start prev expected → SaysEntry (found_of r None) source start prev expected
+    → SaysGathered r source.text start prev expected → SaysAttempt (taken_of start r None) source prev expected
 gathered_says (Ok end) source start prev expected says = says
 gathered_says (Err (Halts halt)) source start prev expected says = says
 gathered_says (Err Log) source start prev expected says = tt
@@ -42,7 +42,7 @@ faulty_entry segsize start behind (Err fault) halt e = let same : Stops (stop_of
 pub lent_says : (told : Told) (source : Gathering) (start len : ℕ) (prev : PrevRule) (r : Result ℕ Trouble) → IsInPage source.kept start len
     → told.segsize ≡ source.segsize → told_bytes told.byte len start ≡ Some (piece_of source.kept start len)
     → SaysEnd r (piece_of source.kept start len) start prev source.segsize (start + len)
-    → SaysEntry (found_of r (Some len)) source start prev (attempt told start prev)
+    → SaysAttempt (taken_of start r (Some len)) source prev (attempt told start prev)
 lent_says told source start len prev (Ok end) page size all (record_, whole, last) =
     let a = attempt_in_page told start len (piece_of source.kept start len) page.inside page.within page.long all page.says prev in
     let b : entry_of told.segsize start (start + len) (decoded (piece_of source.kept start len) start prev) ≡ Ok (record { start = start; end = end; record_ = record_ }) = rw (whole, size, ← last) refl in

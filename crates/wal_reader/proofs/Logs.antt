@@ -4,7 +4,7 @@ use Rattle.std.proofs.lemmas.Bool.{cases_order, cases_eq}
 use Rattle.pg_types.specs.declared.names.Lsn.{Lsn}
 use Rattle.wal_record.specs.declared.types.PrevRule.{PrevRule}
 use Rattle.wal_record.specs.declared.types.PrevRule.TheVariants.{Is}
-use Rattle.wal_reader.specs.declared.types.Stop.{Stop}
+use Rattle.wal_reader.specs.declared.types.NoRecord.{NoRecord}
 use Rattle.wal_reader.specs.Told.{Told}
 use Rattle.wal_reader.specs.Step.{Entry, step}
 use Rattle.wal_reader.specs.Log.{Stands, OneLog}
@@ -12,10 +12,10 @@ use Rattle.wal_reader.specs.Log.{Stands, OneLog}
 not_both : {A E : Type 0} (r : Result A E) (a : A) (e : E) → r ≡ Ok a → r ≡ Err e → ⊥
 not_both r a e p q = cc
 
-same_entry : (r : Result Entry Stop) (x y : Entry) → r ≡ Ok x → r ≡ Ok y → x ≡ y
+same_entry : (r : Result Entry NoRecord) (x y : Entry) → r ≡ Ok x → r ≡ Ok y → x ≡ y
 same_entry r x y p q = cc
 
-same_stop : (r : Result Entry Stop) (x y : Stop) → r ≡ Err x → r ≡ Err y → x ≡ y
+same_stop : (r : Result Entry NoRecord) (x y : NoRecord) → r ≡ Err x → r ≡ Err y → x ≡ y
 same_stop r x y p q = cc
 
 module _ (told : Told) (from : ℕ) (before : PrevRule) where
@@ -38,7 +38,7 @@ module _ (told : Told) (from : ℕ) (before : PrevRule) where
       (ap (λ (z : Entry). z ∷ log) same ∙ ap (λ (zs : List Entry). y ∷ zs) rests, place, rule)
 
   -- no log that stands is longer than a whole one
-  pub no_longer : (log other : List Entry) (at at' : ℕ) (prev link : PrevRule) (stop : Stop)
+  pub no_longer : (log other : List Entry) (at at' : ℕ) (prev link : PrevRule) (stop : NoRecord)
       → length log < length other → Stands told from before log at prev → step told at prev ≡ Err stop
       → Stands told from before other at' link → ⊥
   no_longer log [] at at' prev link stop less s w t = omega arith

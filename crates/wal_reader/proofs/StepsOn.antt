@@ -15,8 +15,8 @@ use Rattle.wal_record.specs.Decoded.{head_of, decoded}
 use Rattle.wal_reader.specs.declared.types.EndWhy.TheVariants as why
 use Rattle.wal_reader.specs.declared.types.Halt.{Halt}
 use Rattle.wal_reader.specs.declared.types.Halt.TheVariants.{Stops, GivesUp}
-use Rattle.wal_reader.specs.declared.types.Stop.{Stop}
-use Rattle.wal_reader.specs.declared.types.Stop.TheVariants.{End, Compressed, TooLong}
+use Rattle.wal_reader.specs.declared.types.NoRecord.{NoRecord}
+use Rattle.wal_reader.specs.declared.types.NoRecord.TheVariants.{End, Compressed, TooLong}
 use Rattle.wal_reader.specs.Told.{Told, accepted, expected_at, header_at, page_header_length, read_at, told_bytes}
 use Rattle.wal_reader.specs.Gathered.{◌>>=◌, enters, gathered, goes_on, has, one_less, place_at, told_at}
 use Rattle.wal_reader.specs.Step.{Entry, attempt, begun, begun_at, end_after, headed, in_place_of, is_kind, length_in, overwrites, rounded_up, step, unless_faulty, unless_given_up}
@@ -186,7 +186,7 @@ attempt_past told start prev some =
 
 overwriting_past :
     (test : Bool) (found entry : Entry) (low : ℕ) → low ≤ found.end
-    → ◌≡◌ {A = Result Entry Stop} (if test then Ok found else Err (End why.Layout)) (Ok entry) → low ≤ entry.end
+    → ◌≡◌ {A = Result Entry NoRecord} (if test then Ok found else Err (End why.Layout)) (Ok entry) → low ≤ entry.end
 overwriting_past true found entry low le e =
     let same : found ≡ entry = cc in
     subst (λ (x : Entry). low ≤ x.end) same le

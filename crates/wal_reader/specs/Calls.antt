@@ -4,7 +4,7 @@ use Rattle.pg_types.specs.declared.fail.Fail.{Fail}
 use Rattle.pg_types.specs.declared.fail.Fail.TheVariants as fail
 use Rattle.wal_reader.specs.declared.types.Halt.{Halt}
 use Rattle.wal_reader.specs.declared.types.Halt.TheVariants.{Stops, GivesUp}
-use Rattle.wal_reader.specs.declared.types.Stop.TheVariants.{End}
+use Rattle.wal_reader.specs.declared.types.NoRecord.TheVariants.{End}
 use Rattle.wal_reader.specs.declared.types.EndWhy.TheVariants.{Missing}
 use Rattle.wal_reader.specs.declared.types.Trouble.{Trouble}
 use Rattle.wal_reader.specs.declared.types.Trouble.TheVariants.{Halts, Log, Memory}

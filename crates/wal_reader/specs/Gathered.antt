@@ -4,7 +4,7 @@ use Rattle.std.specs.Prelude.{ℕ, zero, suc, ◌+◌, ◌-◌, ◌%◌, ◌==�
 use Rattle.wal_page.specs.declared.PageHead.{PageHead}
 use Rattle.wal_reader.specs.declared.types.Halt.{Halt}
 use Rattle.wal_reader.specs.declared.types.Halt.TheVariants.{Stops, GivesUp}
-use Rattle.wal_reader.specs.declared.types.Stop.TheVariants.{End}
+use Rattle.wal_reader.specs.declared.types.NoRecord.TheVariants.{End}
 use Rattle.wal_reader.specs.declared.types.EndWhy.TheVariants.{Missing, Page}
 use Rattle.wal_reader.specs.Told.{Told, header_at, page_header_length}
 

@@ -2,7 +2,7 @@
 use Rattle.std.specs.Prelude.{ℕ, ◌≡◌, ◌<◌, Ok, Err, List, [], ◌∷◌}
 use Rattle.wal_record.specs.declared.types.PrevRule.{PrevRule}
 use Rattle.wal_record.specs.declared.types.PrevRule.TheVariants.{Is}
-use Rattle.wal_reader.specs.declared.types.Stop.{Stop}
+use Rattle.wal_reader.specs.declared.types.NoRecord.{NoRecord}
 use Rattle.wal_reader.specs.Told.{Told}
 use Rattle.wal_reader.specs.Step.{Entry, step}
 
@@ -15,7 +15,7 @@ Stands told from before (entry ∷ older) at prev =
     × (step told here link ≡ Ok entry) × (at ≡ entry.end) × (prev ≡ Is (record { 0 = entry.start }))
 
 -- the whole log from a position on: where it ends and by which rule
-pub record IsLog (told : Told) (from : ℕ) (before : PrevRule) (log : List Entry) (end : ℕ) (stop : Stop) : Type 0 where
+pub record IsLog (told : Told) (from : ℕ) (before : PrevRule) (log : List Entry) (end : ℕ) (stop : NoRecord) : Type 0 where
   pub prev : PrevRule
   pub stands : Stands told from before log end prev
   pub stops : step told end prev ≡ Err stop
@@ -23,7 +23,7 @@ pub record IsLog (told : Told) (from : ℕ) (before : PrevRule) (log : List Entr
 -- from a position there is one log, with one end and one cause
 abbrev pub OneLog : Type 0
 OneLog =
-    (told : Told) (from : ℕ) (before : PrevRule) (log other : List Entry) (end end' : ℕ) (stop stop' : Stop)
+    (told : Told) (from : ℕ) (before : PrevRule) (log other : List Entry) (end end' : ℕ) (stop stop' : NoRecord)
     → IsLog told from before log end stop → IsLog told from before other end' stop'
     → (log ≡ other) × (end ≡ end') × (stop ≡ stop')
 

@@ -1,18 +1,13 @@
 -- What the calls that read a whole record say.
-use Rattle.std.specs.Prelude.{ℕ, ◌≡◌, Option, Result, Ok, Err, IsOk, List}
+use Rattle.std.specs.Prelude.{ℕ, ◌≡◌, Option, Some, None, Result, Ok, Err, IsOk, List}
 use Rattle.wal_record.specs.declared.types.PrevRule.{PrevRule}
 use Rattle.wal_record.specs.Record.{Record}
 use Rattle.wal_record.specs.Decoded.{decoded}
 use Rattle.wal_reader.specs.declared.types.EndWhy.TheVariants.{Layout}
-use Rattle.wal_reader.specs.declared.types.Stop.{Stop}
-use Rattle.wal_reader.specs.declared.types.Stop.TheVariants.{End, Compressed, TooLong}
+use Rattle.wal_reader.specs.declared.types.NoRecord.{NoRecord}
+use Rattle.wal_reader.specs.declared.types.NoRecord.TheVariants.{End, Compressed, TooLong}
 use Rattle.wal_reader.specs.declared.types.Halt.{Halt}
 use Rattle.wal_reader.specs.declared.types.Halt.TheVariants.{Stops, GivesUp}
-use Rattle.wal_reader.specs.declared.types.Attempted.{Attempted}
-use Rattle.wal_reader.specs.declared.types.Attempted.TheVariants.{Read, GivenUp, Refused}
-use Rattle.wal_reader.specs.declared.types.Refusal.{Refusal}
-use Rattle.wal_reader.specs.declared.types.Refusal.TheVariants as refusal
-use Rattle.wal_reader.specs.declared.types.Found.{Found}
 use Rattle.wal_reader.specs.declared.types.Taken.{Taken}
 use Rattle.wal_reader.specs.declared.types.Trouble.{Trouble}
 use Rattle.wal_reader.specs.declared.types.Trouble.TheVariants.{Halts, Log, Memory}
@@ -20,7 +15,7 @@ use Rattle.wal_reader.specs.Calls.{Gathering, text_at, IsThere}
 use Rattle.wal_reader.specs.Step.{Entry, end_after, unless_faulty}
 
 -- the text is a record that begins and ends there
-abbrev pub IsEntry : List ℕ → ℕ → ℕ → PrevRule → Result Entry Halt → Type 0
+abbrev pub IsEntry : {E : Type 0} → List ℕ → ℕ → ℕ → PrevRule → Result Entry E → Type 0
 IsEntry text start end prev expected =
     (record_ : Record) × (decoded text start prev ≡ Ok record_) × (expected ≡ Ok (record { start = start; end = end; record_ = record_ }))
 
@@ -30,12 +25,12 @@ SaysGathered (Err (Halts halt)) text start prev expected = expected ≡ Err halt
 SaysGathered (Err Log) text start prev expected = Unit {0}
 SaysGathered (Err Memory) text start prev expected = Unit {0}
 
--- a record was read
-abbrev pub SaysEntry : Result Found Trouble → Gathering → ℕ → PrevRule → Result Entry Halt → Type 0
-SaysEntry (Ok found) source start prev expected = IsEntry (text_at source start found.lent) start found.end prev expected
-SaysEntry (Err (Halts halt)) source start prev expected = expected ≡ Err halt
-SaysEntry (Err Log) source start prev expected = Unit {0}
-SaysEntry (Err Memory) source start prev expected = Unit {0}
+-- a record was read where an attempt expects it
+abbrev pub SaysAttempt : Result Taken Trouble → Gathering → PrevRule → Result Entry Halt → Type 0
+SaysAttempt (Ok taken) source prev expected = IsEntry (text_at source taken.start taken.lent) taken.start taken.end prev expected
+SaysAttempt (Err (Halts halt)) source prev expected = expected ≡ Err halt
+SaysAttempt (Err Log) source prev expected = Unit {0}
+SaysAttempt (Err Memory) source prev expected = Unit {0}
 
 -- the text is a record, whose end is this one where its text ends before `behind`
 abbrev pub SaysEnd : Result ℕ Trouble → List ℕ → ℕ → PrevRule → ℕ → ℕ → Type 0
@@ -44,38 +39,34 @@ SaysEnd (Err (Halts halt)) text start prev segsize behind = unless_faulty (decod
 SaysEnd (Err Log) text start prev segsize behind = Unit {0}
 SaysEnd (Err Memory) text start prev segsize behind = Unit {0}
 
--- what came of an attempt
-abbrev pub outcome_of : Result Found Trouble → Attempted
-outcome_of (Ok found) = Read found
-outcome_of (Err (Halts (Stops stop))) = Refused (refusal.Stops stop)
-outcome_of (Err (Halts (GivesUp place))) = GivenUp place
-outcome_of (Err Log) = Refused refusal.Log
-outcome_of (Err Memory) = Refused refusal.Memory
+-- where another record begins, if the one that was to be read was given up
+abbrev pub given_up_at : Result Taken Trouble → Option ℕ
+given_up_at (Ok taken) = None
+given_up_at (Err (Halts (Stops why))) = None
+given_up_at (Err (Halts (GivesUp place))) = Some place
+given_up_at (Err Log) = None
+given_up_at (Err Memory) = None
 
--- the refusal that a trouble is, where no other record may stand in the place of one that is given up
-abbrev pub refusal_of : Trouble → Refusal
-refusal_of (Halts (Stops stop)) = refusal.Stops stop
-refusal_of (Halts (GivesUp place)) = refusal.Stops (End Layout)
-refusal_of Log = refusal.Log
-refusal_of Memory = refusal.Memory
+-- where the record that is read stands in such a place
+abbrev pub trouble_in_place : Trouble → Trouble
+trouble_in_place (Halts (Stops (End why))) = Halts (Stops (End why))
+trouble_in_place (Halts (Stops Compressed)) = Halts (Stops (End Layout))
+trouble_in_place (Halts (Stops TooLong)) = Halts (Stops (End Layout))
+trouble_in_place (Halts (GivesUp place)) = Halts (Stops (End Layout))
+trouble_in_place Log = Log
+trouble_in_place Memory = Memory
 
--- and where the record that is read stands in such a place
-abbrev pub refusal_in_place : Trouble → Refusal
-refusal_in_place (Halts (Stops (End why))) = refusal.Stops (End why)
-refusal_in_place (Halts (Stops Compressed)) = refusal.Stops (End Layout)
-refusal_in_place (Halts (Stops TooLong)) = refusal.Stops (End Layout)
-refusal_in_place (Halts (GivesUp place)) = refusal.Stops (End Layout)
-refusal_in_place Log = refusal.Log
-refusal_in_place Memory = refusal.Memory
+-- why no record is read, where no other one may stand in the place of one that is given up
+abbrev pub ended_by : Halt → NoRecord
+ended_by (Stops why) = why
+ended_by (GivesUp place) = End Layout
 
 -- the expected record was read
-abbrev pub SaysStep : Result Taken Refusal → Gathering → PrevRule → Result Entry Stop → Type 0
-SaysStep (Ok taken) source prev expected =
-    (record_ : Record) × (decoded (text_at source taken.start taken.lent) taken.start prev ≡ Ok record_)
-    × (expected ≡ Ok (record { start = taken.start; end = taken.end; record_ = record_ }))
-SaysStep (Err (refusal.Stops stop)) source prev expected = expected ≡ Err stop
-SaysStep (Err refusal.Log) source prev expected = Unit {0}
-SaysStep (Err refusal.Memory) source prev expected = Unit {0}
+abbrev pub SaysStep : Result Taken Trouble → Gathering → PrevRule → Result Entry NoRecord → Type 0
+SaysStep (Ok taken) source prev expected = IsEntry (text_at source taken.start taken.lent) taken.start taken.end prev expected
+SaysStep (Err (Halts halt)) source prev expected = expected ≡ Err (ended_by halt)
+SaysStep (Err Log) source prev expected = Unit {0}
+SaysStep (Err Memory) source prev expected = Unit {0}
 
 -- the record that was read is there and whole
 pub record IsRead (source : Gathering) (start : ℕ) (lent : Option ℕ) (prev : PrevRule) : Type 0 where

@@ -9,8 +9,8 @@ use Rattle.wal_record.specs.declared.types.RecordFault.TheVariants as fault
 use Rattle.wal_record.specs.Record.{Record}
 use Rattle.wal_record.specs.Decoded.{head_of, decoded}
 use Rattle.wal_reader.specs.declared.types.EndWhy.TheVariants as why
-use Rattle.wal_reader.specs.declared.types.Stop.{Stop}
-use Rattle.wal_reader.specs.declared.types.Stop.TheVariants.{End, Compressed, TooLong}
+use Rattle.wal_reader.specs.declared.types.NoRecord.{NoRecord}
+use Rattle.wal_reader.specs.declared.types.NoRecord.TheVariants.{End, Compressed, TooLong}
 use Rattle.wal_reader.specs.declared.types.Halt.{Halt}
 use Rattle.wal_reader.specs.declared.types.Halt.TheVariants.{Stops, GivesUp}
 use Rattle.wal_reader.specs.Told.{Told}
@@ -23,7 +23,7 @@ pub record Entry : Type 0 where
   pub record_ : Record
 
 -- a record's fault as a rule of the log
-abbrev pub stop_of : RecordFault → Stop
+abbrev pub stop_of : RecordFault → NoRecord
 stop_of fault.Zero = End why.Zero
 stop_of fault.Short = End why.Short
 stop_of fault.Manager = End why.Manager
@@ -86,7 +86,7 @@ abbrev pub overwrites : ℕ → Record → Bool
 overwrites begun record_ = is_kind 0 208 record_.head && nat_le 8 (length record_.main) && number_at 8 record_.main 0 == begun
 
 -- what stands in the place of a record that was given up
-abbrev pub in_place_of : ℕ → Result Entry Halt → Result Entry Stop
+abbrev pub in_place_of : ℕ → Result Entry Halt → Result Entry NoRecord
 in_place_of begun (Ok entry) = if overwrites begun entry.record_ then Ok entry else Err (End why.Layout)
 in_place_of begun (Err (Stops (End rule))) = Err (End rule)
 in_place_of begun (Err (Stops Compressed)) = Err (End why.Layout)
@@ -94,17 +94,17 @@ in_place_of begun (Err (Stops TooLong)) = Err (End why.Layout)
 in_place_of begun (Err (GivesUp place)) = Err (End why.Layout)
 
 -- where a record is given up, the one behind the page's header is read, after the same record before it
-abbrev pub unless_given_up : Told → ℕ → PrevRule → Result Entry Halt → Result Entry Stop
+abbrev pub unless_given_up : Told → ℕ → PrevRule → Result Entry Halt → Result Entry NoRecord
 unless_given_up told start prev (Ok entry) = Ok entry
 unless_given_up told start prev (Err (Stops stop)) = Err stop
 unless_given_up told start prev (Err (GivesUp place)) = in_place_of start (attempt told place prev)
 
-abbrev pub begun_at : Told → PrevRule → Result ℕ Halt → Result Entry Stop
+abbrev pub begun_at : Told → PrevRule → Result ℕ Halt → Result Entry NoRecord
 begun_at told prev (Ok start) = unless_given_up told start prev (attempt told start prev)
 begun_at told prev (Err (Stops stop)) = Err stop
 begun_at told prev (Err (GivesUp place)) = Err (End why.Layout)
 
 -- The record at a position, behind a page's header where the position is a page's start, after the
 -- record that the rule names; or the first rule that fails, in their order.
-unfoldable pub step : Told → ℕ → PrevRule → Result Entry Stop
+unfoldable pub step : Told → ℕ → PrevRule → Result Entry NoRecord
 step told at prev = begun_at told prev (place_at told None at)

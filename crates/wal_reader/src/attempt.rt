@@ -1,13 +1,13 @@
 ghost use Rattle.std.specs.Prelude.{◌≡◌, ◌≢◌, ◌+◌, ◌-◌, ◌*◌, ◌^◌, ◌<◌, ◌≤◌, ℕ, [], length, Some, None, Ok, Err, IfOk, IfErr, IsOk, IsTrue};
 ghost use Rattle.outside.specs.Faults.{Rose};
-ghost use Rattle.wal_page.specs.Page.{is_segment_size};
+ghost use Rattle.pg_types.specs.Names.{IsSegmentSize};
 ghost use Rattle.wal_record.specs.Decoded.{head_of, decoded};
 ghost use Rattle.wal_reader.specs.Step as spec;
 ghost use Rattle.wal_reader.specs.Calls.{LogStays, WhereTold, Says, SaysHead, SaysSome, GivesUpPast, text_at, IsThere};
-ghost use Rattle.wal_reader.specs.Records.{SaysGathered, SaysEntry, SaysEnd, IsRead};
+ghost use Rattle.wal_reader.specs.Records.{SaysGathered, SaysAttempt, SaysEnd, IsRead};
 
 use crate::source::Source;
-use crate::types::{EndWhy, Found, Halt, Stop, Trouble};
+use crate::types::{EndWhy, Halt, NoRecord, Taken, Trouble};
 use outside::LogBytes;
 use pg_types::{Lsn, u32_at};
 use wal_record::{PrevRule, RecordFault, RecordHead, decode, decode_head};
@@ -86,13 +86,13 @@ impl Source {
         log: &mut L,
         start: u64,
         prev: PrevRule,
-    ) -> Result<Found, Trouble>
+    ) -> Result<Taken, Trouble>
         ensures same { self.new ≡ record self.old { kept = self.new.kept; text = self.new.text } }
-        ensures sound { IfOk result (λ found. IsRead self.new start found.lent prev) }
-        ensures onward { IfOk result (λ found. (start < found.end) × (found.end ≤ 2 ^ 63 + 2 ^ 31)) }
+        ensures sound { IfOk result (λ taken. IsRead self.new taken.start taken.lent prev) }
+        ensures onward { IfOk result (λ taken. (start < taken.end) × (taken.end ≤ 2 ^ 63 + 2 ^ 31)) }
         ensures given_up { IfErr result (GivesUpPast start) }
         ensures answer { WhereTold (L.told log.old) (L.owner_of log.old) self.old self.new
-            (λ told. SaysEntry result self.new start prev (spec.attempt told start prev)) }
+            (λ told. SaysAttempt result self.new prev (spec.attempt told start prev)) }
         ensures stays { LogStays (L.told log.old) (L.told log.new) (L.owner_of log.old) (L.owner_of log.new) (L.fault_count log.old) (L.fault_count log.new) }
         ensures same_log { L.same log.old log.new }
         ensures cause { result ≡ Err Trouble.Log → Rose (L.fault_count log.old) (L.fault_count log.new) }
@@ -102,14 +102,19 @@ impl Source {
         match found {
             Some(len) => {
                 let end = self.end(start, prev, Some(len), start + len as u64)?;
-                Ok(Found {
+                Ok(Taken {
+                    start,
                     end,
                     lent: Some(len),
                 })
             }
             None => {
                 let end = self.gather_record(log, start, prev)?;
-                Ok(Found { end, lent: None })
+                Ok(Taken {
+                    start,
+                    end,
+                    lent: None,
+                })
             }
         }
     }
@@ -146,25 +151,25 @@ fn length_in(bytes: &[u8]) -> Result<u32, Trouble>
     ensures no_log { result ≡ Err Trouble.Log → ⊥ }
 {
     match u32_at(bytes, 0) {
-        0 => Err(Trouble::Halts(Halt::Stops(Stop::End(EndWhy::Zero)))),
-        1..=23 => Err(Trouble::Halts(Halt::Stops(Stop::End(EndWhy::Short)))),
+        0 => Err(Trouble::Halts(Halt::Stops(NoRecord::End(EndWhy::Zero)))),
+        1..=23 => Err(Trouble::Halts(Halt::Stops(NoRecord::End(EndWhy::Short)))),
         total => Ok(total),
     }
 }
 
 /// A record's fault as a rule of the log.
-fn stop_of(fault: RecordFault) -> Stop
+fn stop_of(fault: RecordFault) -> NoRecord
     ensures { result ≡ spec.stop_of fault }
 {
     match fault {
-        RecordFault::Zero => Stop::End(EndWhy::Zero),
-        RecordFault::Short => Stop::End(EndWhy::Short),
-        RecordFault::Manager => Stop::End(EndWhy::Manager),
-        RecordFault::Prev => Stop::End(EndWhy::Prev),
-        RecordFault::TooLong => Stop::TooLong,
-        RecordFault::Crc => Stop::End(EndWhy::Crc),
-        RecordFault::Layout => Stop::End(EndWhy::Layout),
-        RecordFault::Compressed => Stop::Compressed,
+        RecordFault::Zero => NoRecord::End(EndWhy::Zero),
+        RecordFault::Short => NoRecord::End(EndWhy::Short),
+        RecordFault::Manager => NoRecord::End(EndWhy::Manager),
+        RecordFault::Prev => NoRecord::End(EndWhy::Prev),
+        RecordFault::TooLong => NoRecord::TooLong,
+        RecordFault::Crc => NoRecord::End(EndWhy::Crc),
+        RecordFault::Layout => NoRecord::End(EndWhy::Layout),
+        RecordFault::Compressed => NoRecord::Compressed,
     }
 }
 
@@ -181,9 +186,9 @@ fn test_head(bytes: &[u8], start: u64, prev: PrevRule) -> Result<(), Trouble>
 }
 
 /// The position at which the record's end is, where its last byte stands right before `behind`.
-#[tactic(auto, unfolding(crate::specs::Step::end_after, wal_page::specs::Page::is_segment_size))]
+#[tactic(auto, unfolding(crate::specs::Step::end_after, pg_types::specs::Names::is_segment_size))]
 fn end_of(segsize: u32, head: RecordHead, behind: u64) -> u64
-    requires allowed { IsTrue (is_segment_size segsize) }
+    requires allowed { IsSegmentSize segsize }
     requires bounded { behind ≤ 2 ^ 63 }
     ensures value { result ≡ spec.end_after segsize head behind }
     ensures onward { behind ≤ result }

@@ -1,13 +1,13 @@
 ghost use Rattle.std.specs.Prelude.{◌≡◌, ◌≢◌, ◌+◌, ◌^◌, ◌<◌, ◌≤◌, ℕ, [], Some, None, Ok, Err, IfOk, IfSome, IfErr, IsSome, IsTrue};
 ghost use Rattle.outside.specs.Faults.{Rose};
-ghost use Rattle.wal_page.specs.Page.{is_segment_size};
+ghost use Rattle.pg_types.specs.Names.{IsSegmentSize};
 ghost use Rattle.wal_record.specs.Decoded.{decoded};
 ghost use Rattle.wal_reader.specs.Step.{step};
 ghost use Rattle.wal_reader.specs.Calls.{LogStays, WhereTold};
 ghost use Rattle.wal_reader.specs.Standing.{Answers, BearsPosition, IsLent, MovesOn, SaysGiven, StandsStill, lent_at, next_of, past, record_given, shown};
 
 use crate::source::Source;
-use crate::types::{Given, Next, ReadFault, Refusal, Stop};
+use crate::types::{EndWhy, Halt, Next, NoRecord, ReadFault, Taken, Trouble};
 use outside::LogBytes;
 use pg_types::{Lsn, NoMemory};
 use std::alloc::Global;
@@ -23,7 +23,8 @@ pub struct Reader {
     source: Source,
     /// Where the text of the record last given stands among the bytes that are kept, and its length.
     lent: Option<(u64, usize)>,
-    given: Option<Given>,
+    /// Where the record last given begins, and where the next one would stand.
+    given: Option<(Lsn, Lsn)>,
 }
 
 impl Model for Reader {
@@ -46,7 +47,7 @@ impl Reader {
         at: Lsn,
         prev: PrevRule,
     ) -> Result<Reader, NoMemory>
-        requires { IsTrue (is_segment_size segsize) }
+        requires { IsSegmentSize segsize }
         ensures { IfOk result (λ r. r ≡ record {
           at = at;
           prev = prev;
@@ -90,44 +91,40 @@ impl Reader {
         requires { IsSome self.now.given }
         ensures { IfSome self.now.given (λ given. record_given self.now given ≡ Ok result) }
     {
-        let given = self.given.unwrap();
-        lend(self.text(), given.start, given.link)
+        let (start, _) = self.given.unwrap();
+        lend(self.text(), start, self.prev)
     }
 
     /// Moves past the record last given. Where the last call was not a `next` that gave one, it changes nothing.
     pub fn accept(&mut self)
         ensures { self.new ≡ past self.old.given self.old }
     {
-        if let Some(given) = self.given {
-            self.at = given.end;
-            self.prev = PrevRule::Is(given.start);
+        if let Some((start, end)) = self.given {
+            self.at = end;
+            self.prev = PrevRule::Is(start);
             self.given = None;
         }
     }
 
-    fn advance<L: LogBytes>(&mut self, log: &mut L) -> Result<Given, Refusal>
+    /// Reads the record at the reader's position, and keeps where it stands.
+    fn advance<L: LogBytes>(&mut self, log: &mut L) -> Result<Taken, Trouble>
         ensures same { self.new ≡ record self.old { source = record self.old.source { kept = self.new.source.kept; text = self.new.source.text }; given = self.new.given } }
-        ensures given { IfOk result (λ given. (self.new.given ≡ Some given) × (given.link ≡ self.old.prev)) }
+        ensures given { IfOk result (λ taken. self.new.given ≡ Some (record { 0 = taken.start }, record { 0 = taken.end })) }
         ensures none { IfErr result (λ _. self.new.given ≡ None) }
-        ensures onward { IfOk result (λ given. (self.old.at.0 < given.end.0) × (given.end.0 ≤ 2 ^ 63 + 2 ^ 31)) }
+        ensures onward { IfOk result (λ taken. (self.old.at.0 < taken.end) × (taken.end ≤ 2 ^ 63 + 2 ^ 31)) }
         ensures answer { WhereTold (L.told log.old) (L.owner_of log.old) self.old.source self.new.source
             (λ told. SaysGiven result self.new.source.text self.old.prev (step told self.old.at.0 self.old.prev)) }
         ensures stays { LogStays (L.told log.old) (L.told log.new) (L.owner_of log.old) (L.owner_of log.new) (L.fault_count log.old) (L.fault_count log.new) }
         ensures same_log { L.same log.old log.new }
-        ensures cause { result ≡ Err Refusal.Log → Rose (L.fault_count log.old) (L.fault_count log.new) }
-        ensures uncounted { result ≢ Err Refusal.Log → L.fault_count log.new ≡ L.fault_count log.old }
+        ensures cause { result ≡ Err Trouble.Log → Rose (L.fault_count log.old) (L.fault_count log.new) }
+        ensures uncounted { result ≢ Err Trouble.Log → L.fault_count log.new ≡ L.fault_count log.old }
     {
         self.given = None;
         self.lent = None;
         let taken = self.source.step(log, self.at.0, self.prev)?;
         self.lent = lent_at(taken.start, taken.lent);
-        let given = Given {
-            start: Lsn(taken.start),
-            end: Lsn(taken.end),
-            link: self.prev,
-        };
-        self.given = Some(given);
-        Ok(given)
+        self.given = Some((Lsn(taken.start), Lsn(taken.end)));
+        Ok(taken)
     }
 
     /// The text of the record last given.
@@ -150,18 +147,24 @@ fn lent_at(start: u64, lent: Option<usize>) -> Option<(u64, usize)>
     }
 }
 
-fn next_of(lsn: Lsn, advance: Result<Given, Refusal>) -> Result<Next, ReadFault>
-    ensures { result ≡ next_of lsn advance }
+fn next_of(lsn: Lsn, taken: Result<Taken, Trouble>) -> Result<Next, ReadFault>
+    ensures { result ≡ next_of lsn taken }
 {
-    match advance {
-        Ok(given) => Ok(Next::Record {
-            start: given.start,
-            end: given.end,
+    match taken {
+        Ok(taken) => Ok(Next::Record {
+            start: Lsn(taken.start),
+            end: Lsn(taken.end),
         }),
-        Err(Refusal::Stops(Stop::End(why))) => Ok(Next::AtEnd { lsn, why }),
-        Err(Refusal::Stops(Stop::Compressed)) => Err(ReadFault::Compressed { lsn }),
-        Err(Refusal::Stops(Stop::TooLong)) => Err(ReadFault::TooLong { lsn }),
-        Err(Refusal::Log) => Err(ReadFault::Log),
-        Err(Refusal::Memory) => Err(ReadFault::Memory),
+        Err(Trouble::Halts(Halt::Stops(NoRecord::End(why)))) => Ok(Next::AtEnd { lsn, why }),
+        Err(Trouble::Halts(Halt::Stops(NoRecord::Compressed))) => {
+            Err(ReadFault::Compressed { lsn })
+        }
+        Err(Trouble::Halts(Halt::Stops(NoRecord::TooLong))) => Err(ReadFault::TooLong { lsn }),
+        Err(Trouble::Halts(Halt::GivesUp { .. })) => Ok(Next::AtEnd {
+            lsn,
+            why: EndWhy::Layout,
+        }),
+        Err(Trouble::Log) => Err(ReadFault::Log),
+        Err(Trouble::Memory) => Err(ReadFault::Memory),
     }
 }

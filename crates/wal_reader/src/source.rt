@@ -1,13 +1,14 @@
 ghost use Rattle.std.specs.Prelude.{◌≡◌, ◌≢◌, ◌+◌, ◌-◌, ◌%◌, ◌^◌, ◌<◌, ◌≤◌, ℕ, [], ◌++◌, length, Some, None, Ok, Err, IfOk, IfSome, IfErr, OnErr, OnOk, ◌==◌, IsTrue, vec_len};
 ghost use Rattle.std.specs.Option.{ForSome};
 ghost use Rattle.outside.specs.Faults.{Rose};
-ghost use Rattle.wal_page.specs.Page.{is_segment_size, header_length};
+ghost use Rattle.pg_types.specs.Names.{IsSegmentSize};
+ghost use Rattle.wal_page.specs.Page.{header_length};
 ghost use Rattle.wal_reader.specs.Told.{told_bytes, header_at, accepted};
 ghost use Rattle.wal_reader.specs.Gathered as spec;
 ghost use Rattle.wal_reader.specs.Kept.{AreTold, Covers, IsInPage, piece_of};
 ghost use Rattle.wal_reader.specs.Calls.{LogStays, WhereTold, Says, SaysBytes, SaysText, SaysPart, GivesUpPast, less, text_at, IsThere};
 
-use crate::types::{EndWhy, Halt, Stop, Trouble};
+use crate::types::{EndWhy, Halt, NoRecord, Trouble};
 use crate::window::{PAGE, Window};
 use outside::LogBytes;
 use pg_types::{Fail, Lsn, NoMemory, u32_at};
@@ -26,19 +27,19 @@ pub struct Source {
 
 impl Model for Source {
     ghost use Rattle.std.specs.Prelude.{IsTrue};
-    ghost use Rattle.wal_page.specs.Page.{is_segment_size};
+    ghost use Rattle.pg_types.specs.Names.{IsSegmentSize};
     ghost use Rattle.wal_reader.specs.Calls.{Gathering};
 
     ghost Value = { Gathering };
 
     ghost view = { λ s. record { system = s.system; segsize = s.segsize; kept = s.window; text = s.text.items } };
 
-    ghost invariant = { λ s. IsTrue (is_segment_size s.segsize) };
+    ghost invariant = { λ s. IsSegmentSize s.segsize };
 }
 
 impl Source {
     pub fn new(alloc: Global, system: u64, segsize: u32) -> Result<Source, NoMemory>
-        requires { IsTrue (is_segment_size segsize) }
+        requires { IsSegmentSize segsize }
         ensures { IfOk result (λ s. s ≡ record { system = system; segsize = segsize; kept = record { from = 0; bytes = [] }; text = [] }) }
     {
         let window = Window::new(alloc)?;
@@ -68,7 +69,7 @@ impl Source {
         if self.window.cover(log, at, n)? {
             Ok(())
         } else {
-            Err(Trouble::Halts(Halt::Stops(Stop::End(EndWhy::Missing))))
+            Err(Trouble::Halts(Halt::Stops(NoRecord::End(EndWhy::Missing))))
         }
     }
 
@@ -117,7 +118,7 @@ impl Source {
 
     pub fn segsize(&self) -> u32
         ensures value { result ≡ self.now.segsize }
-        ensures allowed { IsTrue (is_segment_size result) }
+        ensures allowed { IsSegmentSize result }
     {
         self.segsize
     }
@@ -259,9 +260,9 @@ impl Source {
     }
 }
 
-#[tactic(auto, unfolding(wal_page::specs::Page::is_segment_size))]
+#[tactic(auto, unfolding(pg_types::specs::Names::is_segment_size))]
 fn starts_segment(at: u64, segsize: u32) -> bool
-    requires { IsTrue (is_segment_size segsize) }
+    requires { IsSegmentSize segsize }
     ensures { result ≡ (at % segsize == 0) }
 {
     at % u64::from(segsize) == 0
@@ -274,7 +275,7 @@ fn accepted(read: Result<PageHead, PageFault>) -> Result<PageHead, Trouble>
 {
     match read {
         Ok(head) => Ok(head),
-        Err(_) => Err(Trouble::Halts(Halt::Stops(Stop::End(EndWhy::Page)))),
+        Err(_) => Err(Trouble::Halts(Halt::Stops(NoRecord::End(EndWhy::Page)))),
     }
 }
 
@@ -294,7 +295,7 @@ fn enters(head: &PageHead, missing: Option<u32>, behind: u64) -> Result<u64, Tro
     } else if begins_inside && head.rem == missing {
         Ok(behind)
     } else {
-        Err(Trouble::Halts(Halt::Stops(Stop::End(EndWhy::Page))))
+        Err(Trouble::Halts(Halt::Stops(NoRecord::End(EndWhy::Page))))
     }
 }
 

@@ -4,10 +4,10 @@ ghost use Rattle.wal_record.specs.Decoded.{decoded};
 ghost use Rattle.wal_record.specs.Record.{Record};
 ghost use Rattle.wal_reader.specs.Step as spec;
 ghost use Rattle.wal_reader.specs.Calls.{LogStays, WhereTold, text_at};
-ghost use Rattle.wal_reader.specs.Records.{SaysStep, outcome_of, refusal_of, refusal_in_place, IsRead};
+ghost use Rattle.wal_reader.specs.Records.{SaysStep, given_up_at, trouble_in_place, IsRead};
 
 use crate::source::Source;
-use crate::types::{Attempted, EndWhy, Found, Halt, Refusal, Stop, Taken, Trouble};
+use crate::types::{EndWhy, Halt, NoRecord, Taken, Trouble};
 use outside::LogBytes;
 use pg_types::{Lsn, u64_at};
 use wal_record::{PrevRule, lend};
@@ -20,7 +20,7 @@ impl Source {
         log: &mut L,
         at: u64,
         prev: PrevRule,
-    ) -> Result<Taken, Refusal>
+    ) -> Result<Taken, Trouble>
         ensures same { self.new ≡ record self.old { kept = self.new.kept; text = self.new.text } }
         ensures sound { IfOk result (λ taken. IsRead self.new taken.start taken.lent prev) }
         ensures onward { IfOk result (λ taken. (at < taken.end) × (taken.end ≤ 2 ^ 63 + 2 ^ 31)) }
@@ -28,17 +28,14 @@ impl Source {
             (λ told. SaysStep result self.new prev (spec.step told at prev)) }
         ensures stays { LogStays (L.told log.old) (L.told log.new) (L.owner_of log.old) (L.owner_of log.new) (L.fault_count log.old) (L.fault_count log.new) }
         ensures same_log { L.same log.old log.new }
-        ensures cause { result ≡ Err Refusal.Log → Rose (L.fault_count log.old) (L.fault_count log.new) }
-        ensures uncounted { result ≢ Err Refusal.Log → L.fault_count log.new ≡ L.fault_count log.old }
+        ensures cause { result ≡ Err Trouble.Log → Rose (L.fault_count log.old) (L.fault_count log.new) }
+        ensures uncounted { result ≢ Err Trouble.Log → L.fault_count log.new ≡ L.fault_count log.old }
     {
-        let start = match self.place_at(log, None, at) {
-            Ok(start) => start,
-            Err(trouble) => return Err(refusal_of(trouble)),
-        };
-        match outcome_of(self.attempt(log, start, prev)) {
-            Attempted::Read(found) => Ok(taken(start, found)),
-            Attempted::GivenUp { place } => self.replaced(log, start, place, prev),
-            Attempted::Refused(refusal) => Err(refusal),
+        let start = self.place_at(log, None, at)?;
+        let answer = self.attempt(log, start, prev);
+        match given_up_at(answer) {
+            None => answer,
+            Some(place) => self.replaced(log, start, place, prev),
         }
     }
 
@@ -49,7 +46,7 @@ impl Source {
         begun: u64,
         place: u64,
         prev: PrevRule,
-    ) -> Result<Taken, Refusal>
+    ) -> Result<Taken, Trouble>
         ensures same { self.new ≡ record self.old { kept = self.new.kept; text = self.new.text } }
         ensures sound { IfOk result (λ taken. IsRead self.new taken.start taken.lent prev) }
         ensures onward { IfOk result (λ taken. (place < taken.end) × (taken.end ≤ 2 ^ 63 + 2 ^ 31)) }
@@ -57,34 +54,27 @@ impl Source {
             (λ told. SaysStep result self.new prev (spec.in_place_of begun (spec.attempt told place prev))) }
         ensures stays { LogStays (L.told log.old) (L.told log.new) (L.owner_of log.old) (L.owner_of log.new) (L.fault_count log.old) (L.fault_count log.new) }
         ensures same_log { L.same log.old log.new }
-        ensures cause { result ≡ Err Refusal.Log → Rose (L.fault_count log.old) (L.fault_count log.new) }
-        ensures uncounted { result ≢ Err Refusal.Log → L.fault_count log.new ≡ L.fault_count log.old }
+        ensures cause { result ≡ Err Trouble.Log → Rose (L.fault_count log.old) (L.fault_count log.new) }
+        ensures uncounted { result ≢ Err Trouble.Log → L.fault_count log.new ≡ L.fault_count log.old }
     {
         match self.attempt(log, place, prev) {
-            Ok(found) => self.replacing(begun, place, found, prev),
-            Err(trouble) => Err(refusal_in_place(trouble)),
+            Ok(taken) => self.replacing(begun, taken, prev),
+            Err(trouble) => Err(trouble_in_place(trouble)),
         }
     }
 
     /// The record that was read, if it says that the one that began at `begun` was given up.
-    fn replacing(
-        &self,
-        begun: u64,
-        place: u64,
-        found: Found,
-        prev: PrevRule,
-    ) -> Result<Taken, Refusal>
-        requires { IsRead self.now place found.lent prev }
-        ensures sound { IfOk result (λ taken. IsRead self.now taken.start taken.lent prev) }
-        ensures end { IfOk result (λ taken. taken.end ≡ found.end) }
-        ensures answer { (read : Record) → decoded (text_at self.now place found.lent) place prev ≡ Ok read
-            → SaysStep result self.now prev (spec.in_place_of begun (Ok (record { start = place; end = found.end; record_ = read }))) }
-        ensures no_log { result ≡ Err Refusal.Log → ⊥ }
+    fn replacing(&self, begun: u64, taken: Taken, prev: PrevRule) -> Result<Taken, Trouble>
+        requires { IsRead self.now taken.start taken.lent prev }
+        ensures same { IfOk result (λ found. found ≡ taken) }
+        ensures answer { (read : Record) → decoded (text_at self.now taken.start taken.lent) taken.start prev ≡ Ok read
+            → SaysStep result self.now prev (spec.in_place_of begun (Ok (record { start = taken.start; end = taken.end; record_ = read }))) }
+        ensures no_log { result ≡ Err Trouble.Log → ⊥ }
     {
-        if self.overwrites(begun, place, found.lent, prev) {
-            Ok(taken(place, found))
+        if self.overwrites(begun, taken.start, taken.lent, prev) {
+            Ok(taken)
         } else {
-            Err(Refusal::Stops(Stop::End(EndWhy::Layout)))
+            Err(Trouble::Halts(Halt::Stops(NoRecord::End(EndWhy::Layout))))
         }
     }
 
@@ -100,47 +90,29 @@ impl Source {
     }
 }
 
-fn taken(start: u64, found: Found) -> Taken
-    ensures { result ≡ record { start = start; end = found.end; lent = found.lent } }
+/// Where another record begins, if the record that was to be read was given up.
+fn given_up_at(answer: Result<Taken, Trouble>) -> Option<u64>
+    ensures { result ≡ given_up_at answer }
 {
-    Taken {
-        start,
-        end: found.end,
-        lent: found.lent,
+    match answer {
+        Err(Trouble::Halts(Halt::GivesUp { place })) => Some(place),
+        Err(Trouble::Halts(Halt::Stops(_))) => None,
+        Err(Trouble::Log) => None,
+        Err(Trouble::Memory) => None,
+        Ok(_) => None,
     }
 }
 
-fn outcome_of(attempt: Result<Found, Trouble>) -> Attempted
-    ensures { result ≡ outcome_of attempt }
-{
-    match attempt {
-        Ok(found) => Attempted::Read(found),
-        Err(Trouble::Halts(Halt::GivesUp { place })) => Attempted::GivenUp { place },
-        Err(Trouble::Halts(Halt::Stops(stop))) => Attempted::Refused(Refusal::Stops(stop)),
-        Err(Trouble::Log) => Attempted::Refused(Refusal::Log),
-        Err(Trouble::Memory) => Attempted::Refused(Refusal::Memory),
-    }
-}
-
-fn refusal_of(trouble: Trouble) -> Refusal
-    ensures { result ≡ refusal_of trouble }
+/// The trouble where the record that is read stands in the place of one that was given up.
+fn trouble_in_place(trouble: Trouble) -> Trouble
+    ensures { result ≡ trouble_in_place trouble }
 {
     match trouble {
-        Trouble::Halts(Halt::Stops(stop)) => Refusal::Stops(stop),
-        Trouble::Halts(Halt::GivesUp { .. }) => Refusal::Stops(Stop::End(EndWhy::Layout)),
-        Trouble::Log => Refusal::Log,
-        Trouble::Memory => Refusal::Memory,
-    }
-}
-
-/// The refusal where the record that is read stands in the place of one that was given up.
-fn refusal_in_place(trouble: Trouble) -> Refusal
-    ensures { result ≡ refusal_in_place trouble }
-{
-    match trouble {
-        Trouble::Halts(Halt::Stops(Stop::End(why))) => Refusal::Stops(Stop::End(why)),
-        Trouble::Halts(_) => Refusal::Stops(Stop::End(EndWhy::Layout)),
-        Trouble::Log => Refusal::Log,
-        Trouble::Memory => Refusal::Memory,
+        Trouble::Halts(Halt::Stops(NoRecord::End(why))) => {
+            Trouble::Halts(Halt::Stops(NoRecord::End(why)))
+        }
+        Trouble::Halts(_) => Trouble::Halts(Halt::Stops(NoRecord::End(EndWhy::Layout))),
+        Trouble::Log => Trouble::Log,
+        Trouble::Memory => Trouble::Memory,
     }
 }

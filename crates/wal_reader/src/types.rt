@@ -2,7 +2,6 @@ ghost use Rattle.std.specs.Prelude.{◌≡◌};
 
 use pg_types::{Fail, Lsn};
 use thiserror::Error;
-use wal_record::PrevRule;
 
 /// The rule that is the log's end (`ReadRecord`, xlogrecovery.c), in the order in which they are tried.
 #[derive(Clone, Copy, Debug, PartialEq, Eq)]
@@ -27,7 +26,7 @@ pub enum EndWhy {
 
 /// Why no record is read at a position: the log ends there, or its record is refused.
 #[derive(Clone, Copy, Debug, PartialEq, Eq)]
-pub enum Stop {
+pub enum NoRecord {
     End(EndWhy),
     /// A page image is compressed.
     Compressed,
@@ -39,7 +38,7 @@ pub enum Stop {
 /// that it was given up, and that another record begins at `place`.
 #[derive(Clone, Copy, Debug, PartialEq, Eq)]
 pub enum Halt {
-    Stops(Stop),
+    Stops(NoRecord),
     GivesUp { place: u64 },
 }
 
@@ -88,46 +87,11 @@ impl From<Fail> for Trouble {
     }
 }
 
-/// Why no record is given.
-#[derive(Clone, Copy, Debug, PartialEq, Eq)]
-pub enum Refusal {
-    Stops(Stop),
-    /// The log failed.
-    Log,
-    /// Memory ran out.
-    Memory,
-}
-
-/// What came of the attempt to read a record.
-#[derive(Clone, Copy, Debug, PartialEq, Eq)]
-pub enum Attempted {
-    Read(Found),
-    /// The record was given up, and another one begins at `place`.
-    GivenUp { place: u64 },
-    Refused(Refusal),
-}
-
-/// The record last given: where it begins, where the next one would stand, and its rule for the link.
-#[derive(Clone, Copy, Debug, PartialEq, Eq)]
-pub struct Given {
-    pub start: Lsn,
-    pub end: Lsn,
-    pub link: PrevRule,
-}
-
-/// A record that was read at a position: where it begins, where the next one would stand, and its length
-/// where it stands whole among the bytes that are kept.
+/// A record that was read: where it begins, where the next one would stand, and its length where it stands
+/// whole among the bytes that are kept.
 #[derive(Clone, Copy, Debug, PartialEq, Eq)]
 pub struct Taken {
     pub start: u64,
-    pub end: u64,
-    pub lent: Option<usize>,
-}
-
-/// A record that was read: where the next one would stand, and its length where it stands whole among
-/// the bytes that are kept.
-#[derive(Clone, Copy, Debug, PartialEq, Eq)]
-pub struct Found {
     pub end: u64,
     pub lent: Option<usize>,
 }

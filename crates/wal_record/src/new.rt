@@ -1,8 +1,4 @@
-ghost use Rattle.std.specs.Prelude.{◌≡◌, ◌∷◌, ◌++◌, [], OnOk, OnErr};
-
-use pg_types::{Bytes, Locator, Lsn, NoMemory, Xid};
-use std::alloc::Global;
-use std::marker::Model;
+use pg_types::{Bytes, List, Locator, Lsn, Xid};
 
 /// A record that is to be written. Its length, its CRC and the flags of its blocks are computed.
 #[derive(Debug, Drop)]
@@ -44,43 +40,5 @@ pub struct NewImage {
     pub bytes: Bytes,
 }
 
-/// The blocks of a new record. Contracts see them as a list.
-#[derive(Debug, Drop)]
-pub struct NewBlocks {
-    items: Vec<NewBlock>,
-}
-
-impl Model for NewBlocks {
-    ghost use Rattle.std.specs.Prelude.{List};
-    ghost use Rattle.wal_record.specs.declared.new.NewBlock.{NewBlock};
-
-    ghost Value = { List NewBlock };
-
-    ghost view = { λ blocks. blocks.items.items };
-}
-
-impl NewBlocks {
-    /// No blocks. It takes no memory.
-    pub fn new(alloc: Global) -> NewBlocks
-        ensures { result ≡ [] }
-    {
-        NewBlocks {
-            items: Vec::new(alloc),
-        }
-    }
-
-    /// Adds a block at the end. Where memory runs out the block is dropped.
-    pub fn push(&mut self, block: NewBlock) -> Result<(), NoMemory>
-        ensures ok { OnOk result (self.new ≡ self.old ++ block ∷ []) }
-        ensures err { OnErr result (self.new ≡ self.old) }
-    {
-        self.items.push(block)?;
-        Ok(())
-    }
-
-    pub fn as_slice(&self) -> &[NewBlock]
-        ensures { result.now ≡ self.now }
-    {
-        self.items.as_slice()
-    }
-}
+/// The blocks of a new record.
+pub type NewBlocks = List<NewBlock>;

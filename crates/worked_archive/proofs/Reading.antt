@@ -8,7 +8,7 @@ use Rattle.wal_record.specs.declared.types.PrevRule.TheVariants.{Is, Below}
 use Rattle.wal_record.specs.Decoded.{decoded, fields_of, head_of, laid_out, tested, total_at, whole}
 use Rattle.wal_record.specs.Parts.{block_at, block_from, flags_at, image_from, locator_at, locator_from, number_from, part_at, part_from, parts_from}
 use Rattle.wal_reader.specs.declared.types.EndWhy.TheVariants.{Zero}
-use Rattle.wal_reader.specs.declared.types.Stop.TheVariants.{End}
+use Rattle.wal_reader.specs.declared.types.NoRecord.TheVariants.{End}
 use Rattle.wal_reader.specs.Gathered.{gathered, place_at}
 use Rattle.wal_reader.specs.Step.{attempt, begun, end_after, headed, step}
 use Rattle.wal_reader.specs.Told.{header_at, told_bytes}

@@ -13,7 +13,7 @@ use Rattle.wal_bodies.specs.declared.types.RecBlock.{RecBlock}
 use Rattle.wal_bodies.specs.declared.types.RecKind.{RecKind}
 use Rattle.wal_bodies.specs.declared.types.RecKind.TheVariants.{BackupEnd, Checkpoint, Ended, Insert, Running}
 use Rattle.wal_reader.specs.declared.types.EndWhy.TheVariants.{Zero}
-use Rattle.wal_reader.specs.declared.types.Stop.TheVariants.{End}
+use Rattle.wal_reader.specs.declared.types.NoRecord.TheVariants.{End}
 use Rattle.wal_reader.specs.Told.{Told}
 use Rattle.wal_reader.specs.Step.{Entry}
 use Rattle.wal_reader.specs.Log.{IsLog}

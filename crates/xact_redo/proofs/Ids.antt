@@ -1,5 +1,6 @@
 -- Facts that hold of each id of a list, and the greatest one.
-use Rattle.std.proofs.Common.{◌≡◌, ℕ, zero, suc, ◌+◌, ◌*◌, ◌/◌, ◌≤◌, ◌<◌, Bool, true, false, cond, List, [], ◌∷◌, All, fold, max, arith, refl}
+use Rattle.std.proofs.Common.{◌≡◌, ℕ, zero, suc, ◌+◌, ◌*◌, ◌/◌, ◌≤◌, ◌<◌, Bool, true, false, cond, List, [], ◌∷◌, All, filter, fold, max, arith, refl}
+use Rattle.std.proofs.lemmas.List.Elements.{All-tail}
 use Rattle.pg_types.specs.declared.names.Xid.{Xid}
 use Rattle.known_assigned.specs.Ids.{greatest, numbers}
 use Rattle.transaction_model.specs.StandbyStates.{last_named}
@@ -32,3 +33,12 @@ pub named_at_end :
     → last_named xid (cond commit (Commit subs) (Abort subs)) ≡ greatest (xid ∷ subs)
 named_at_end true xid subs = refl
 named_at_end false xid subs = refl
+
+-- the greatest of some ids is in range where all of them are
+pub greatest-some : (p : ℕ → Bool) (m bound : ℕ) (xs : List Xid) → m ≤ bound → All (λ (x : Xid). x.0 ≤ bound) xs → fold max m (filter p (numbers xs)) ≤ bound
+greatest-some p m bound [] low all = low
+greatest-some p m bound (x ∷ xs) low all =
+    elim (p x.0) as (λ t. fold max m (cond t (x.0 ∷ filter p (numbers xs)) (filter p (numbers xs))) ≤ bound) [
+      | true ↦ greatest-some p (max m x.0) bound xs (omega (arith, low, all 0 x (omega arith))) (All-tail (λ (y : Xid). y.0 ≤ bound) x xs all)
+      | false ↦ greatest-some p m bound xs low (All-tail (λ (y : Xid). y.0 ≤ bound) x xs all)
+    ]

@@ -12,7 +12,7 @@ use Rattle.wal_bodies.specs.declared.types.RecKind.TheVariants.{Ended, Running}
 use Rattle.wal_bodies.specs.Xids.{record_xids}
 use Rattle.commit_log.specs.Log.{changed_after, changed_at, initial_status, reserved_end, status_after, status_of}
 use Rattle.subtrans.specs.declared.Pair.{Pair}
-use Rattle.known_assigned.specs.Ids.{numbers}
+use Rattle.known_assigned.specs.Ids.{greatest, numbers}
 use Rattle.known_assigned.specs.Known.{Known, count_added, nothing_known}
 use Rattle.transaction_model.specs.StandbyStates.{StandbyState, last_named, replay}
 use Rattle.xact_redo.specs.declared.state.XactState.{XactState}
@@ -86,6 +86,10 @@ last_named_in head kind = last_named head.xid.0 (kind_of head kind)
 abbrev pub still_live : (ℕ → Status) → List ℕ → List ℕ
 still_live statuses xids = filter (λ x. not (shows_ended statuses x)) xids
 
+-- the greatest of these ids that the commit log shows ended, or 0
+abbrev pub greatest_ended : (ℕ → Status) → List ℕ → ℕ
+greatest_ended statuses xids = greatest (filter (shows_ended statuses) xids)
+
 -- the ids whose status a record sets
 abbrev pub ended_ids : RecordHead → RecKind → List Xid
 ended_ids head (Ended time xinfo xids) = head.xid ∷ xids
@@ -97,10 +101,11 @@ listed_running (Running tops subs overflow next oldest latest xids) = xids
 listed_running _ = []
 
 -- the room that a record needs: for the statuses that it sets, for the ids that it shows to run, and for those of
--- a running record that have not ended, which are chosen beforehand
+-- a running record that have not ended, which are chosen beforehand, with the greatest one that has
 pub record HasRoom (rec : Rec) (state : XactState) : Type 0 where
   pub statuses : All (λ (x : Xid). x.0 < reserved_end state.log) (ended_ids rec.head rec.kind)
   pub live : numbers state.scratch ≡ still_live (status_of state.log) (numbers (listed_running rec.kind))
+  pub ended : state.ended.0 ≡ greatest_ended (status_of state.log) (numbers (listed_running rec.kind))
   pub places :
       count_added state.known.known (last_named_in rec.head rec.kind) + length state.scratch ≤ state.known.spare
 

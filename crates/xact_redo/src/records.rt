@@ -7,7 +7,6 @@ ghost use Rattle.xact_redo.specs.State.{AreIdsInRange, HasRoom, has_ended, last_
 ghost use Rattle.xact_redo.specs.TransactionsOf.{is_shutdown};
 
 use crate::state::XactState;
-use commit_log::CommitLog;
 use known_assigned::RunningHead;
 use pg_types::{Lsn, Status, Xid};
 use wal_bodies::{Rec, RecKind};
@@ -19,8 +18,7 @@ use wal_record::RecordHead;
 /// (`ProcArrayApplyRecoveryInfo`), and at a shutdown checkpoint none does.
 ///
 /// It takes no memory. It costs a constant time for each id that is new, a search by halving and a
-/// write for each id that ends, and of a running record a look-up for each id that is listed, beside what
-/// `KnownAssigned::running` costs.
+/// write for each id that ends, and of a running record what `KnownAssigned::running` costs.
 #[tactic(auto, unfolding(crate::specs::State::state_after, crate::specs::State::transactions))]
 pub fn redo(rec: &Rec, state: &mut XactState)
     requires ids { AreIdsInRange rec.now }
@@ -39,7 +37,6 @@ pub fn redo(rec: &Rec, state: &mut XactState)
             next,
             oldest,
             latest,
-            xids,
             ..
         } => {
             let head = RunningHead {
@@ -49,7 +46,7 @@ pub fn redo(rec: &Rec, state: &mut XactState)
                 oldest: *oldest,
                 latest: *latest,
             };
-            see_running(&head, xids.as_slice(), state);
+            see_running(&head, state);
         }
         RecKind::Checkpoint { next, .. } => see_checkpoint(rec.head, *next, state),
         _ => {}
@@ -99,33 +96,18 @@ fn end_tree(xid: Xid, subs: &[Xid], status: Status, at: Lsn, state: &mut XactSta
     state.known.end_tree(xid, subs);
 }
 
-/// The listed transactions run, but those that have ended.
+/// The listed transactions run, but those that have ended, as `reserve` found them.
 #[tactic(auto, unfolding(crate::specs::State::transactions))]
-fn see_running(head: &RunningHead, xids: &[Xid], state: &mut XactState)
+fn see_running(head: &RunningHead, state: &mut XactState)
     requires oldest { head.now.oldest.0 ≤ 2 ^ 63 + 2 ^ 32 }
     requires latest { head.now.latest.0 ≤ 2 ^ 63 + 2 ^ 32 }
-    requires listed { All (λ (x : Xid). x.0 ≤ 2 ^ 63 + 2 ^ 32) xids.now }
-    requires live { numbers state.old.scratch ≡ still_live (status_of state.old.log) (numbers xids.now) }
+    requires ended { state.old.ended.0 ≤ 2 ^ 63 + 2 ^ 32 }
     requires places { length state.old.scratch ≤ state.old.known.spare }
-    ensures { transactions state.new ≡ record (transactions state.old) { known = after_running (transactions state.old).known head.now (still_live (transactions state.old).statuses (numbers xids.now)) (greatest (filter (shows_ended (transactions state.old).statuses) (numbers xids.now))) } }
+    ensures { transactions state.new ≡ record (transactions state.old) { known = after_running (transactions state.old).known head.now (numbers state.old.scratch) state.old.ended.0 } }
 {
-    let ended = last_ended(&state.log, xids);
-    state.known.running(head, state.scratch.as_slice(), ended);
-}
-
-/// The greatest of the ids that the commit log shows ended, or 0.
-fn last_ended(log: &CommitLog, xids: &[Xid]) -> Xid
-    requires { All (λ (x : Xid). x.0 ≤ 2 ^ 63 + 2 ^ 32) xids.now }
-    ensures last { result.0 ≡ greatest (filter (shows_ended (status_of log.now)) (numbers xids.now)) }
-    ensures bound { result.0 ≤ 2 ^ 63 + 2 ^ 32 }
-{
-    let mut most = 0;
-    for xid in xids {
-        if has_ended(log.get(*xid)) {
-            most = most.max(xid.0);
-        }
-    }
-    Xid(most)
+    state
+        .known
+        .running(head, state.scratch.as_slice(), state.ended);
 }
 
 /// Whether a status says that the transaction has ended.

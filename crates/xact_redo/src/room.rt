@@ -1,8 +1,8 @@
-ghost use Rattle.std.specs.Prelude.{◌≡◌, ℕ, ◌<◌, [], All, OnOk};
+ghost use Rattle.std.specs.Prelude.{◌≡◌, ℕ, ◌<◌, [], All, IfOk, OnOk};
 ghost use Rattle.pg_types.specs.declared.names.Xid.{Xid};
 ghost use Rattle.commit_log.specs.Log.{changed_at, reserved_end, status_of};
 ghost use Rattle.known_assigned.specs.Ids.{numbers};
-ghost use Rattle.xact_redo.specs.State.{HasRoom, ended_ids, listed_running, still_live, transactions};
+ghost use Rattle.xact_redo.specs.State.{HasRoom, ended_ids, greatest_ended, listed_running, still_live, transactions};
 
 use crate::records::{has_ended, last_named};
 use crate::state::XactState;
@@ -21,7 +21,7 @@ pub fn reserve(rec: &Rec, state: &mut XactState) -> Result<(), NoMemory>
     ensures room { OnOk result (HasRoom rec.now state.new) }
 {
     reserve_statuses(rec, &mut state.log)?;
-    keep_live(rec, &state.log, &mut state.scratch)?;
+    state.ended = keep_live(rec, &state.log, &mut state.scratch)?;
     let added = state.known.would_add(last_named(rec));
     match added.checked_add(state.scratch.len() as u64) {
         Some(places) => state.known.reserve(places),
@@ -41,26 +41,33 @@ fn reserve_statuses(rec: &Rec, log: &mut CommitLog) -> Result<(), NoMemory>
     }
 }
 
-/// Keeps those of the ids that the record lists as running which the commit log does not show ended.
-fn keep_live(rec: &Rec, log: &CommitLog, live: &mut XidList) -> Result<(), NoMemory>
-    ensures { OnOk result (numbers live.new ≡ still_live (status_of log.now) (numbers (listed_running rec.now.kind))) }
+/// Keeps those of the ids that the record lists as running which the commit log does not show ended, and
+/// answers the greatest of the others, or 0.
+fn keep_live(rec: &Rec, log: &CommitLog, live: &mut XidList) -> Result<Xid, NoMemory>
+    ensures live { OnOk result (numbers live.new ≡ still_live (status_of log.now) (numbers (listed_running rec.now.kind))) }
+    ensures ended { IfOk result (λ ended. ended.0 ≡ greatest_ended (status_of log.now) (numbers (listed_running rec.now.kind))) }
 {
     live.clear();
     match &rec.kind {
-        RecKind::Running { xids, .. } => push_live(xids.as_slice(), log, live),
-        _ => Ok(()),
+        RecKind::Running { xids, .. } => part_live(xids.as_slice(), log, live),
+        _ => Ok(Xid(0)),
     }
 }
 
-/// Puts those of the ids that the commit log does not show ended into an empty list.
-fn push_live(xids: &[Xid], log: &CommitLog, live: &mut XidList) -> Result<(), NoMemory>
+/// Puts those of the ids that the commit log does not show ended into an empty list, and answers the
+/// greatest of the others, or 0. Each id is looked up once.
+fn part_live(xids: &[Xid], log: &CommitLog, live: &mut XidList) -> Result<Xid, NoMemory>
     requires { live.old ≡ [] }
-    ensures { OnOk result (numbers live.new ≡ still_live (status_of log.now) (numbers xids.now)) }
+    ensures live { OnOk result (numbers live.new ≡ still_live (status_of log.now) (numbers xids.now)) }
+    ensures ended { IfOk result (λ ended. ended.0 ≡ greatest_ended (status_of log.now) (numbers xids.now)) }
 {
+    let mut most = 0;
     for xid in xids {
-        if !has_ended(log.get(*xid)) {
+        if has_ended(log.get(*xid)) {
+            most = most.max(xid.0);
+        } else {
             live.push(*xid)?;
         }
     }
-    Ok(())
+    Ok(Xid(most))
 }

@@ -1,7 +1,5 @@
-use Rattle.std.proofs.Common.{refl}
-use Rattle.wal_page.specs.Page.{is_segment_size}
+use Rattle.pg_types.specs.SegmentSizes.{sixteen_mebibytes}
 use Rattle.reader_cases.proofs.read.Goals as goal
 
 pub start-requires : goal.start-requires
-unfolding is_segment_size
-start-requires c = refl
+start-requires c = sixteen_mebibytes

@@ -1,5 +1,6 @@
-use Rattle.std.proofs.Common.{refl, ap, ◌∙◌, lit≤, List}
+use Rattle.std.proofs.Common.{ap, ◌∙◌, List}
 use Rattle.std.proofs.lemmas.Result.{IfOk-weaker}
+use Rattle.pg_types.specs.SegmentSizes.{sixteen_mebibytes}
 use Rattle.pg_types.specs.declared.names.Locator.{Locator}
 use Rattle.page_store.specs.Content.{content}
 use Rattle.heap_redo.specs.Redone.{View, view_of}
@@ -9,9 +10,8 @@ use Rattle.scan_model.specs.Tables.{database, known}
 use Rattle.standby_cli.proofs.Replaying.{no_blocks}
 use Rattle.standby_cli.proofs.replay.start.Goals as goal
 
--- 16 MiB are 2 to the 24th
 pub at_origin-requires-clause-segment_size : goal.at_origin-requires-clause-segment_size
-at_origin-requires-clause-segment_size c = record { exponent = 24; low = lit≤ tt; high = lit≤ tt; power = refl }
+at_origin-requires-clause-segment_size c = sixteen_mebibytes
 
 pub returns : goal.returns
 returns c =

@@ -1,5 +1,4 @@
-use Rattle.pg_types.specs.SegmentSizes.{one_mebibyte, sixteen_mebibytes}
-use Rattle.wal_cases.proofs.Sizes.{one_gibibyte}
+use Rattle.pg_types.specs.SegmentSizes.{one_gibibyte, one_mebibyte, sixteen_mebibytes}
 use Rattle.wal_cases.proofs.vocabulary.segment_size.Goals as goal
 
 pub returns-in-text : goal.returns-in-text

@@ -1,9 +1,9 @@
-use Rattle.std.proofs.Common.{◌+◌, ◌^◌, ◌≤◌, ◌<◌, ◌∷◌, All, subst, sym}
+use Rattle.std.proofs.Common.{arith, ◌+◌, ◌^◌, ◌≤◌, ◌<◌, ◌∷◌, All, subst, sym}
 use Rattle.pg_types.specs.declared.names.Xid.{Xid}
-use Rattle.commit_log.specs.Log.{reserved_end}
+use Rattle.commit_log.specs.Log.{reserved_end, status_of}
 use Rattle.wal_bodies.specs.Xids.{record_xids}
-use Rattle.xact_redo.specs.State.{ended_ids}
-use Rattle.xact_redo.proofs.Ids.{of_running}
+use Rattle.xact_redo.specs.State.{ended_ids, shows_ended}
+use Rattle.xact_redo.proofs.Ids.{greatest-some, of_running}
 use Rattle.xact_redo.proofs.records.redo.Goals as goal
 
 abbrev InRange : Xid → Type 0
@@ -31,9 +31,10 @@ see_running-requires-clause-latest c =
     (of_running InRange c.args.rec.now.head.xid w.next w.oldest w.latest w.xids
     (subst (λ kind. All InRange (record_xids c.args.rec.now.head kind)) w.is c.requires.ids)).1
 
-pub see_running-requires-clause-listed : goal.see_running-requires-clause-listed
-see_running-requires-clause-listed c =
+pub see_running-requires-clause-ended : goal.see_running-requires-clause-ended
+see_running-requires-clause-ended c =
     let w = c.in-Running in
-    subst (All InRange) (sym c.as_slice-in-Running.ensures)
-    (of_running InRange c.args.rec.now.head.xid w.next w.oldest w.latest w.xids
-    (subst (λ kind. All InRange (record_xids c.args.rec.now.head kind)) w.is c.requires.ids)).2
+    let listed = (of_running InRange c.args.rec.now.head.xid w.next w.oldest w.latest w.xids
+    (subst (λ kind. All InRange (record_xids c.args.rec.now.head kind)) w.is c.requires.ids)).2 in
+    let is = c.requires.room.ended in
+    search (greatest-some (shows_ended (status_of c.args.state.now.log)) 0 (2 ^ 63 + 2 ^ 32) w.xids (omega arith) listed, is, w.is)

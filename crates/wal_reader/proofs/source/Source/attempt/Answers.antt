@@ -5,7 +5,7 @@ use Rattle.wal_reader.specs.Told.{told_bytes}
 use Rattle.wal_reader.specs.Kept.{Covers, piece_of}
 use Rattle.wal_reader.specs.Step.{attempt}
 use Rattle.wal_reader.specs.Calls.{Gathering, told_to}
-use Rattle.wal_reader.specs.Records.{SaysEntry}
+use Rattle.wal_reader.specs.Records.{SaysAttempt}
 use Rattle.wal_reader.proofs.LentSteps as steps
 use Rattle.wal_reader.proofs.Answered.{where_found, where_map}
 use Rattle.wal_reader.proofs.source.Source.attempt.Goals as goal
@@ -37,7 +37,7 @@ returns-in_err-end-in-Some-clause-answer g c =
     let p = err_from_is_err_and c.from_residual-in_err-end-in-Some.result c.from_residual-in_err-end-in-Some.ensures.1 in
     rw (p.1, p.2) (where_map (g.L.LogBytes.told c.args.log.now) (g.L.LogBytes.owner_of c.args.log.now) old new new
     (λ told. told_bytes told.byte len c.args.start ≡ Some (piece_of new.kept c.args.start len))
-    (λ told. SaysEntry (Err e) new c.args.start c.args.prev (attempt told c.args.start c.args.prev))
+    (λ told. SaysAttempt (Err e) new c.args.prev (attempt told c.args.start c.args.prev))
     refl
     (λ byte all. steps.lent_says (told_to old byte (g.L.LogBytes.owner_of c.args.log.now)) new c.args.start len c.args.prev (Err e) page
     (sym (ap (λ (s : Gathering). s.segsize) same)) all c.in_err-end-in-Some.ensures.says)
@@ -54,7 +54,7 @@ returns-in_ok-end-in-Some-clause-answer g c =
     let end = c.in_ok-end-in-Some.end in
     where_map (g.L.LogBytes.told c.args.log.now) (g.L.LogBytes.owner_of c.args.log.now) old new new
     (λ told. told_bytes told.byte len c.args.start ≡ Some (piece_of new.kept c.args.start len))
-    (λ told. SaysEntry (Ok (record { end = end; lent = Some len })) new c.args.start c.args.prev (attempt told c.args.start c.args.prev))
+    (λ told. SaysAttempt (Ok (record { start = c.args.start; end = end; lent = Some len })) new c.args.prev (attempt told c.args.start c.args.prev))
     refl
     (λ byte all. steps.lent_says (told_to old byte (g.L.LogBytes.owner_of c.args.log.now)) new c.args.start len c.args.prev (Ok end) page
     (sym (ap (λ (s : Gathering). s.segsize) same)) all c.in_ok-end-in-Some.ensures.says)

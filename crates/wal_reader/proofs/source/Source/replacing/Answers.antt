@@ -5,4 +5,4 @@ use Rattle.wal_reader.proofs.source.Source.replacing.Goals as goal
 pub returns-then-overwrites-clause-answer : goal.returns-then-overwrites-clause-answer
 returns-then-overwrites-clause-answer c = λ read e.
     let w : overwrites c.args.begun read ≡ true = sym (c.overwrites.ensures read e) ∙ c.if-overwrites.true in
-    rw c.taken.ensures (read, e, rw w refl)
+    (read, e, rw w refl)

@@ -1,0 +1,6 @@
+mod Digits
+mod Names
+mod Numbers
+mod Pieces
+mod Taken
+mod Words
