@@ -116,7 +116,7 @@ fn check_piece(text: &[u8]) -> u32 {
     let piece = text.chunks(PIECE).next().unwrap_or(&[]);
     let mut state = [0_u8; 4];
     for _ in text.chunks(PIECE) {
-        state = crc32c(piece, &state).to_le_bytes();
+        state = crc32c(&state, piece).to_le_bytes();
     }
     u32::from_le_bytes(state)
 }
