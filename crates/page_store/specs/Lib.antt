@@ -2,3 +2,4 @@ pub mod Content
 pub mod Held
 pub mod Lending
 pub mod Seen
+pub mod Seen

@@ -1,4 +1,5 @@
 pub mod Ends
+pub mod Ends
 pub mod Fields
 pub mod HeapKinds
 pub mod Kinds
