@@ -1,5 +1,4 @@
 pub mod Ends
-pub mod Ends
 pub mod Fields
 pub mod HeapKinds
 pub mod Kinds
