@@ -2,4 +2,3 @@ pub mod Content
 pub mod Held
 pub mod Lending
 pub mod Seen
-pub mod Seen

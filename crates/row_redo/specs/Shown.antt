@@ -15,6 +15,6 @@ use Rattle.wal_bodies.specs.Ends.{Rises}
 abbrev pub BlocksShowVersions : Type 0
 BlocksShowVersions =
     (o : LogOrigin) (known : List Locator) (log : List Rec) (view : View) (table : ℕ) (locator : Locator)
-    → table_of known locator ≡ Some table → BeginsEmpty o → LegalLog o known log → Rises 0 0 log → All RecordFits log
+    → table_of known locator ≡ Some table → BeginsEmpty o → LegalLog o known log → Rises 0 log → All RecordFits log
     → view_after o known log ≡ Ok view
     → ShowsTable o log (versions o locator log) (block_count o locator log) (view table)
