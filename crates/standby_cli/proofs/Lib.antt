@@ -4,6 +4,7 @@ pub mod Faults
 pub mod Legal
 pub mod Opening
 pub mod Pages
+pub mod Printed
 pub mod Replaying
 pub mod Starting
 pub mod Statuses

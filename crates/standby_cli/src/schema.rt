@@ -57,11 +57,7 @@ fn table_of(words: &[String]) -> Option<&str>
 }
 
 /// How a scan of the table with this name begins.
-fn start_scan<'a, B: BaseDir>(
-    alloc: Global,
-    name: &'a str,
-    base: &mut B,
-) -> Result<Start<'a>, Fail>
+fn start_scan<'a, B: BaseDir>(alloc: Global, name: &'a str, base: &mut B) -> Result<Start<'a>, Fail>
     ensures told { IfOk result (λ start. IfSome (B.files base.old) (λ described. StartsWith (Some name.now) described (start_meaning start))) }
     ensures understood { IfOk result (λ start. start_meaning start ≢ Stops BadWords) }
     ensures failed { result ≡ Err Fail.Failed → Rose (B.fault_count base.old) (B.fault_count base.new) }

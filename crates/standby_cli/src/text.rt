@@ -1,14 +1,13 @@
 ghost use Rattle.std.specs.Prelude.{◌≡◌, ◌<◌, ◌++◌, OnOk, IfOk, codes, length};
 ghost use Rattle.std.specs.Fmt.{decimal};
 ghost use Rattle.pg_types.specs.Names.{lsn_text};
-ghost use Rattle.seq_scan.specs.Meaning.{end_of, meaning};
-ghost use Rattle.scan_model.specs.Scan.{LogRefused, NotAdmitted, SchemaRefused, backup_text, column_name, end_line, key_text, line, page_text, place_text, refusal_text, row_line, schema_text, state_text, text_of, what_text};
+ghost use Rattle.seq_scan.specs.Meaning.{end_of};
+ghost use Rattle.scan_model.specs.Scan.{LogRefused, NotAdmitted, SchemaRefused, backup_text, column_name, end_line, key_text, line, place_text, refusal_text, schema_text, state_text, text_of, what_text};
 ghost use Rattle.scan_model.specs.Tables.{table_with};
 
-use heap_tuple::Row;
 use known_assigned::State;
 use pg_types::{Lsn, NoMemory, Place};
-use seq_scan::{BlockEnd, BlockRows};
+use seq_scan::BlockEnd;
 use standby_core::{NodeStatus, Refusal};
 use std::alloc::Global;
 use table_schema::{Key, SchemaFault, Tables};
@@ -27,11 +26,7 @@ pub fn schema_refused_text(alloc: Global, fault: &SchemaFault) -> Result<Vec<u8>
 }
 
 /// Appends why a description is refused.
-fn push_schema_fault(
-    alloc: Global,
-    fault: &SchemaFault,
-    text: &mut Vec<u8>,
-) -> Result<(), NoMemory>
+fn push_schema_fault(alloc: Global, fault: &SchemaFault, text: &mut Vec<u8>) -> Result<(), NoMemory>
     ensures { OnOk result (text.new.items ≡ text.old.items ++ schema_text fault.now) }
 {
     match fault {
@@ -200,29 +195,9 @@ pub fn head_text(alloc: Global, at: Lsn) -> Result<Vec<u8>, NoMemory>
     Ok(text)
 }
 
-/// The lines of a block of the table with this number: its rows, and how they end.
-pub fn page_text(
-    alloc: Global,
-    tables: &Tables,
-    table: u16,
-    block: u32,
-    more: bool,
-    page: &BlockRows,
-) -> Result<Vec<u8>, NoMemory>
-    requires { table < length tables.now.tables }
-    ensures { IfOk result (λ text. text.items ≡ page_text (table_with tables.now table) block more (meaning page.now)) }
-{
-    let mut text = Vec::new(alloc);
-    for row in page.rows.as_slice() {
-        push_row(tables, table, row, &mut text)?;
-    }
-    push_end(alloc, tables, table, block, more, page.end, &mut text)?;
-    Ok(text)
-}
-
 /// Appends how a block's rows end.
 #[tactic(auto, unfolding(scan_model::specs::Scan::end_line))]
-fn push_end(
+pub fn push_end(
     alloc: Global,
     tables: &Tables,
     table: u16,
@@ -268,16 +243,4 @@ fn column_name(tables: &Tables, table: u16, column: u16) -> &str
     } else {
         ""
     }
-}
-
-/// Appends a row's line.
-#[tactic(auto, unfolding(scan_model::specs::Scan::row_line), using(crate::proofs::Described::of_table))]
-fn push_row(tables: &Tables, table: u16, row: &Row, text: &mut Vec<u8>) -> Result<(), NoMemory>
-    requires { table < length tables.now.tables }
-    ensures { OnOk result (text.new.items ≡ text.old.items ++ row_line (table_with tables.now table).columns row.now) }
-{
-    text.extend_from_slice(b"row ")?;
-    tables.print_row(table, row, text)?;
-    text.push(b'\n')?;
-    Ok(())
 }

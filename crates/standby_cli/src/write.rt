@@ -8,14 +8,14 @@ ghost use Rattle.scan_model.specs.Tables.{table_with};
 ghost use Rattle.standby_cli.specs.Meaning.{page_in, reply_meaning, scan_meaning};
 ghost use Rattle.standby_cli.specs.Outcome.{WritesSome};
 ghost use Rattle.outside.specs.Faults.{HasCause};
-ghost use Rattle.seq_scan.specs.Meaning.{end_of, meaning};
+ghost use Rattle.seq_scan.specs.Meaning.{end_of};
 
 use crate::reply::{Reply, Scan};
-use crate::text::{head_text, not_admitted_text, page_text, refused_text, schema_refused_text};
+use crate::text::{head_text, not_admitted_text, push_end, refused_text, schema_refused_text};
 use outside::Sink;
 use page_store::Pool;
 use pg_types::{Fail, Lsn, NoMemory, Tag};
-use seq_scan::{BlockEnd, BlockRows, read_block};
+use seq_scan::{BlockEnd, print_block};
 use standby_snapshot::Snapshot;
 use std::alloc::Global;
 use table_schema::Tables;
@@ -124,63 +124,53 @@ fn write_blocks<O: Sink>(
     ensures cause { HasCause (O.fault_count out.old) (O.fault_count out.new) result }
     ensures shortages { O.short_count out.old ≤ O.short_count out.new }
 {
+    let mut text = Vec::new(alloc);
     for block in 0..blocks {
-        let page = match read_page(alloc, tables, pool, Tag { table, block }, snapshot, state) {
+        let tag = Tag { table, block };
+        let more = block + 1 < blocks;
+        let end = match print_page(alloc, tables, pool, tag, more, snapshot, state, &mut text) {
             Err(_) => return Err(Fail::Memory),
-            Ok(page) => page,
+            Ok(end) => end,
         };
-        match write_page(alloc, tables, table, block, block + 1 < blocks, &page, out) {
+        match write_line(text.as_slice(), 0, out) {
             Err(fail) => return Err(fail),
             Ok(_) => {}
         }
-        if !is_whole(page.end) {
-            return Ok(status_at(page.end));
+        if !is_whole(end) {
+            return Ok(status_at(end));
         }
     }
     Ok(0)
 }
 
-/// Reads the rows of a block of a described table. It changes nothing of the pool's content.
-fn read_page(
+/// Puts the lines of a block of a described table in place of what stood in `text`, and answers how its
+/// rows end. It changes nothing of the pool's content.
+fn print_page(
     alloc: Global,
     tables: &Tables,
     pool: &mut Pool,
     tag: Tag,
+    more: bool,
     snapshot: &Snapshot,
     state: &XactState,
-) -> Result<BlockRows, NoMemory>
+    text: &mut Vec<u8>,
+) -> Result<BlockEnd, NoMemory>
     requires pooled { tag.table < table_count pool.old }
     requires described { tag.table < length tables.now.tables }
-    ensures rows { IfOk result (λ page. meaning page ≡ page_in tables.now (in_numbers snapshot.now) (transaction_status state.now.log) (content pool.old) tag.table tag.block) }
+    ensures text { IfOk result (λ end. text.new.items ≡ page_text (table_with tables.now tag.table) tag.block more (page_in tables.now (in_numbers snapshot.now) (transaction_status state.now.log) (content pool.old) tag.table tag.block)) }
+    ensures end { IfOk result (λ end. end_of end ≡ (page_in tables.now (in_numbers snapshot.now) (transaction_status state.now.log) (content pool.old) tag.table tag.block).end) }
     ensures content { content pool.new ≡ content pool.old }
     ensures tables { table_count pool.new ≡ table_count pool.old }
 {
-    read_block(
-        alloc,
-        pool,
-        tag,
-        tables.columns(tag.table),
-        snapshot,
-        state,
-    )
-}
-
-/// Writes the lines of a block of the table with this number.
-fn write_page<O: Sink>(
-    alloc: Global,
-    tables: &Tables,
-    table: u16,
-    block: u32,
-    more: bool,
-    page: &BlockRows,
-    out: &mut O,
-) -> Result<u8, Fail>
-    requires { table < length tables.now.tables }
-    ensures told { WritesSome (O.written out.old) (O.written out.new) (page_text (table_with tables.now table) block more (meaning page.now)) result }
-    ensures cause { HasCause (O.fault_count out.old) (O.fault_count out.new) result }
-    ensures shortages { O.short_count out.old ≤ O.short_count out.new }
-{
-    write_text(page_text(alloc, tables, table, block, more, page), 0, out)
+    text.clear();
+    let columns = tables.columns(tag.table);
+    match print_block(pool, tag, columns, snapshot, state, b"row ", text) {
+        Err(no_memory) => Err(no_memory),
+        Ok(end) => {
+            push_end(alloc, tables, tag.table, tag.block, more, end, text)?;
+            Ok(end)
+        }
+    }
 }
 
 /// Whether a block's rows end with its last line.
