@@ -98,7 +98,11 @@ fn show_kind<W: fmt::Write>(rec: &Rec, f: &mut fmt::Formatter<W>) -> fmt::Result
         RecKind::Parameters { .. } => show_parameters(&rec.kind, f),
         RecKind::Running { .. } => show_running(&rec.kind, f),
         RecKind::Ended { time, xinfo, xids } => {
-            let name = if rec.is_commit() { "commit" } else { "abort" };
+            let name = if rec.head.info & 0x70 == 0 {
+                "commit"
+            } else {
+                "abort"
+            };
             let xids = ShowXids(xids.as_slice());
             write!(f, "{name} time {time} xinfo 0x{xinfo:x} xids {xids}")
         }

@@ -4,7 +4,7 @@ ghost use Rattle.heap_tuple.specs.Values.{row_of};
 ghost use Rattle.heap_page.specs.Item.{numbered};
 ghost use Rattle.heap_page.specs.Page.{items_of};
 ghost use Rattle.page_store.specs.Content.{content, table_count};
-ghost use Rattle.heap_redo.specs.Redone.{seen};
+ghost use Rattle.page_store.specs.Seen.{seen};
 ghost use Rattle.standby_snapshot.specs.Snapshot.{in_numbers, no_parents};
 ghost use Rattle.tuple_visibility.specs.Visible.{visible_of};
 ghost use Rattle.seq_scan.specs.BlockRows.{BlockRows, NoPage, block_rows, rows_from, with_tuple, with_values};

@@ -8,7 +8,8 @@ use Rattle.wal_reader.specs.declared.types.EndWhy.{EndWhy}
 use Rattle.wal_reader.specs.Kept.{AreTold}
 use Rattle.wal_reader.specs.Told.{Told, told_bytes}
 use Rattle.wal_archive.specs.ArchiveLog.{archived_byte, archived_bytes}
-use Rattle.heap_redo.specs.Redone.{View, absent, redone, seen, view_of}
+use Rattle.page_store.specs.Seen.{View, absent, seen, view_of}
+use Rattle.heap_redo.specs.Redone.{redone}
 use Rattle.heap_redo.specs.declared.fault.RedoFault.{RedoFault}
 use Rattle.page_store.specs.Content.{Blocks}
 use Rattle.standby_core.specs.declared.types.Refusal.{Refusal}
@@ -19,16 +20,17 @@ use Rattle.standby_core.specs.Standby.{Standby, at_origin, described_in, describ
 use Rattle.standby_core.specs.declared.node.Node.{Node}
 use Rattle.standby_core.specs.View.{ReplaysTold, standby}
 use Rattle.standby_model.specs.Archived.{segment_size}
-use Rattle.standby_model.specs.Log.{Stop, Ended, Refused, end_of, next_of, record_at}
+use Rattle.wal_bodies.specs.Ends.{end_of}
+use Rattle.standby_model.specs.Log.{Stop, Ended, Refused, next_of, record_at}
 use Rattle.scan_model.specs.Run.{origin, redone_at, redone_on, replayed, start}
-use Rattle.scan_model.specs.Scan.{AnswersBlocks, AnswersLog, AnswersNext, AnswersOpening, AnswersTable, LogRefused, Reply, is_admitted, page_of, pages_from, status_of}
+use Rattle.scan_model.specs.Scan.{AnswersBlocks, AnswersLog, AnswersNext, AnswersOpening, AnswersTable, LogRefused, Answer, is_admitted, page_of, pages_from, exit_status}
 use Rattle.scan_model.specs.Tables.{number_named}
 use Rattle.scan_model.proofs.Runs.{IsSetUp, redone_is, refused_is, set_up}
-use Rattle.standby_cli.specs.declared.replay.Replay.{Replay}
-use Rattle.standby_cli.specs.declared.replay.Replay.TheVariants as replay
+use Rattle.standby_cli.specs.declared.replay.LogEnd.{LogEnd}
+use Rattle.standby_cli.specs.declared.replay.LogEnd.TheVariants as replay
 use Rattle.standby_cli.specs.Outcome.{IsAtOnce}
 use Rattle.standby_cli.proofs.Statuses.{five_later, one_later, pages_later}
-use Rattle.standby_cli.specs.Replays.{AnswersReplay, HasReplayed, IsReplayed, StandsIn, bare, told}
+use Rattle.standby_cli.specs.Replays.{AnswersLogEnd, HasReplayed, IsLogEnd, StandsIn, bare, told}
 
 -- the log as the node is told it
 told_is : (byte : ℕ → Option ℕ) (node : Standby) → node.system ≡ 7 → node.segsize ≡ segment_size → told_to node byte ≡ told byte
@@ -96,12 +98,12 @@ log_ended tables byte old new lsn why (kept, (log, has)) replays stays =
 
 -- a record was refused
 refused_next :
-    (name : List ℕ) (node : Standby) (found given : Result Rec Stop) (reply : Reply) → found ≡ given → AnswersNext name node given reply
+    (name : List ℕ) (node : Standby) (found given : Result Rec Stop) (reply : Answer) → found ≡ given → AnswersNext name node given reply
     → AnswersNext name node found reply
 refused_next name node found given reply e h = subst (λ (f : Result Rec Stop). AnswersNext name node f reply) (sym e) h
 
 refused_block :
-    (node : Standby) (outcome : Result Standby RedoFault) (fault : RedoFault) (what : Refusal) (reply : Reply) → outcome ≡ Err fault
+    (node : Standby) (outcome : Result Standby RedoFault) (fault : RedoFault) (what : Refusal) (reply : Answer) → outcome ≡ Err fault
     → redo_refusal fault ≡ Some what → reply ≡ LogRefused node.at.0 what → AnswersBlocks node outcome reply
 refused_block node outcome fault what reply e f g =
     subst (λ (o : Result Standby RedoFault). AnswersBlocks node o reply) (sym e) (what, f, g)
@@ -173,7 +175,7 @@ pub ended_in :
     (tables : Description) (given bytes : Option (ℕ → Option ℕ)) (old new : Node) (lsn : Lsn) (why : EndWhy) → given ≡ bytes
     → StandsIn tables bytes (standby old) → ReplaysTold given (Ok (AtEnd lsn why)) (standby old) (standby new)
     → StaysUnlessApplied (Ok (AtEnd lsn why)) (standby old) (standby new)
-    → IsReplayed tables bytes (replay.Ended new why)
+    → IsLogEnd tables bytes (replay.Ended new why)
 ended_in tables given None old new lsn why e stands replays stays = tt
 ended_in tables given (Some byte) old new lsn why e stands replays stays =
     log_ended tables byte (standby old) (standby new) lsn why stands
@@ -182,7 +184,7 @@ ended_in tables given (Some byte) old new lsn why e stands replays stays =
 pub refused_in :
     (tables : Description) (given bytes : Option (ℕ → Option ℕ)) (old new : Standby) (lsn : Lsn) (what : Refusal) → given ≡ bytes
     → StandsIn tables bytes old → ReplaysTold given (Ok (IsRefused_ lsn what)) old new
-    → IsReplayed tables bytes (replay.Refused lsn what)
+    → IsLogEnd tables bytes (replay.Refused lsn what)
 refused_in tables given None old new lsn what e stands replays = tt
 refused_in tables given (Some byte) old new lsn what e stands replays =
     log_refused tables byte old new lsn what stands
@@ -190,8 +192,8 @@ refused_in tables given (Some byte) old new lsn what e stands replays =
 
 -- what replay left decides the answer
 pub answers_log :
-    (tables : Description) (name : List ℕ) (files : Option (List ℕ → Option (List ℕ))) (left : Replay) (reply : Reply)
-    → IsReplayed tables (archived_bytes files segment_size) left → AnswersReplay name left reply
+    (tables : Description) (name : List ℕ) (files : Option (List ℕ → Option (List ℕ))) (left : LogEnd) (reply : Answer)
+    → IsLogEnd tables (archived_bytes files segment_size) left → AnswersLogEnd name left reply
     → IfSome files (λ fs. AnswersLog tables name fs reply)
 answers_log tables name None left reply is says = tt
 answers_log tables name (Some fs) (replay.Ended node why) reply (log, has, next) says = record {
@@ -207,26 +209,26 @@ answers_log tables name (Some fs) (replay.Refused at what) reply (log, node, has
   stands = has.stands;
   node = node;
   is_replayed = has.is_replayed;
-  says = subst (λ (r : Reply). AnswersNext name node (next_of (told (archived_byte fs segment_size)) (described_in tables) origin.redo.0 log) r)
+  says = subst (λ (r : Answer). AnswersNext name node (next_of (told (archived_byte fs segment_size)) (described_in tables) origin.redo.0 log) r)
       (sym says) (next name);
 }
 
 -- and it is none that words and base folder decide
 opening_later :
-    (node : Standby) (table : ℕ) (admitted : Bool) (reply : Reply) → AnswersOpening node table admitted reply
-    → IsAtOnce (status_of reply) → ⊥
+    (node : Standby) (table : ℕ) (admitted : Bool) (reply : Answer) → AnswersOpening node table admitted reply
+    → IsAtOnce (exit_status reply) → ⊥
 opening_later node table true reply says at_once =
-    pages_later (pages_from (page_of node table) 0 says.blocks) (subst (λ (r : Reply). IsAtOnce (status_of r)) says.says at_once)
+    pages_later (pages_from (page_of node table) 0 says.blocks) (subst (λ (r : Answer). IsAtOnce (exit_status r)) says.says at_once)
 opening_later node table false reply says at_once =
-    one_later (subst (λ (r : Reply). IsAtOnce (status_of r)) says at_once)
+    one_later (subst (λ (r : Answer). IsAtOnce (exit_status r)) says at_once)
 
 table_later :
-    (node : Standby) (number : Option ℕ) (reply : Reply) → AnswersTable node number reply → IsAtOnce (status_of reply) → ⊥
-table_later node None reply says at_once = one_later (subst (λ (r : Reply). IsAtOnce (status_of r)) says at_once)
+    (node : Standby) (number : Option ℕ) (reply : Answer) → AnswersTable node number reply → IsAtOnce (exit_status reply) → ⊥
+table_later node None reply says at_once = one_later (subst (λ (r : Answer). IsAtOnce (exit_status r)) says at_once)
 table_later node (Some table) reply says at_once = opening_later node table (is_admitted node) reply says at_once
 
-pub not_at_once : (name : List ℕ) (left : Replay) (reply : Reply) → AnswersReplay name left reply → IsAtOnce (status_of reply) → ⊥
+pub not_at_once : (name : List ℕ) (left : LogEnd) (reply : Answer) → AnswersLogEnd name left reply → IsAtOnce (exit_status reply) → ⊥
 not_at_once name (replay.Ended node why) reply says at_once =
     table_later (bare (standby node)) (number_named (standby node).tables name) reply says at_once
 not_at_once name (replay.Refused at what) reply says at_once =
-    five_later (subst (λ (r : Reply). IsAtOnce (status_of r)) says at_once)
+    five_later (subst (λ (r : Answer). IsAtOnce (exit_status r)) says at_once)

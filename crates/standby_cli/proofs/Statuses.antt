@@ -2,23 +2,23 @@
 use Rattle.std.proofs.Common.{◌≡◌, ℕ, ◌<◌, List, [], ◌∷◌, inl, inr, refl, ap, arith}
 use Rattle.seq_scan.specs.BlockRows.{BlockEnd, BlockRows, Whole, ToastedAt, BadAt, UnknownAt, NoPage}
 use Rattle.table_schema.specs.Description.{DescribedTable}
-use Rattle.scan_model.specs.Scan.{Reply, BadWords, SchemaMissing, SchemaRefused, LogRefused, NoTable, NotAdmitted, Scanned, pages_from, status_after, status_at, status_of}
-use Rattle.standby_cli.specs.Outcome.{IsAtOnce, IsReplied}
+use Rattle.scan_model.specs.Scan.{Answer, BadWords, SchemaMissing, SchemaRefused, LogRefused, NoTable, NotAdmitted, Scanned, pages_from, status_after, status_at, exit_status}
+use Rattle.standby_cli.specs.Outcome.{IsAtOnce, IsAnswerStatus}
 
 -- it is no fault's
-replied_at : (end : BlockEnd) → IsReplied (status_at end)
+replied_at : (end : BlockEnd) → IsAnswerStatus (status_at end)
 replied_at Whole = inl refl
 replied_at (ToastedAt line column) = inr (inl refl)
 replied_at (BadAt line column) = inr (inl refl)
 replied_at (UnknownAt line id) = inr (inr (inl refl))
 replied_at NoPage = inr (inr (inl refl))
 
-replied_after : (pages : List BlockRows) → IsReplied (status_after pages)
+replied_after : (pages : List BlockRows) → IsAnswerStatus (status_after pages)
 replied_after [] = inl refl
 replied_after (page ∷ []) = replied_at page.end
 replied_after (page ∷ next ∷ pages) = replied_after (next ∷ pages)
 
-pub replied : (reply : Reply) → IsReplied (status_of reply)
+pub replied : (reply : Answer) → IsAnswerStatus (exit_status reply)
 replied BadWords = inr (inr (inr (inl refl)))
 replied SchemaMissing = inr (inr (inr (inr (inr refl))))
 replied (SchemaRefused fault) = inr (inr (inr (inr (inl refl))))
@@ -27,7 +27,7 @@ replied NoTable = inr (inl refl)
 replied (NotAdmitted min at awaited state) = inr (inl refl)
 replied (Scanned at table blocks pages) = replied_after pages
 
-pub no_fault : (status n : ℕ) → IsReplied status → status ≡ n → 5 < n → ⊥
+pub no_fault : (status n : ℕ) → IsAnswerStatus status → status ≡ n → 5 < n → ⊥
 no_fault status n (inl e) f less = omega arith
 no_fault status n (inr (inl e)) f less = omega arith
 no_fault status n (inr (inr (inl e))) f less = omega arith
@@ -38,7 +38,7 @@ no_fault status n (inr (inr (inr (inr (inr e))))) f less = omega arith
 -- a table without blocks
 pub status_of_none :
     (at : ℕ) (table : DescribedTable) (blocks : ℕ) (page : ℕ → BlockRows) → blocks ≡ 0
-    → status_of (Scanned at table blocks (pages_from page 0 blocks)) ≡ 0
+    → exit_status (Scanned at table blocks (pages_from page 0 blocks)) ≡ 0
 unfolding pages_from
 status_of_none at table blocks page e = ap (λ (n : ℕ). status_after (pages_from page 0 n)) e
 
@@ -70,7 +70,7 @@ pages_later (page ∷ []) h = end_later page.end h
 pages_later (page ∷ next ∷ pages) h = pages_later (next ∷ pages) h
 
 -- only words that are not understood have the status 2
-pub two_is : (reply : Reply) → status_of reply ≡ 2 → reply ≡ BadWords
+pub two_is : (reply : Answer) → exit_status reply ≡ 2 → reply ≡ BadWords
 two_is BadWords e = refl
 two_is SchemaMissing e = absurd (omega (arith, e))
 two_is (SchemaRefused fault) e = absurd (omega (arith, e))

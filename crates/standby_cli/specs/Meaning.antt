@@ -1,6 +1,6 @@
 -- What the program's answers mean in the model.
 use Rattle.std.specs.Prelude.{ℕ, Bool, List, Result}
-use Rattle.heap_redo.specs.Redone.{seen}
+use Rattle.page_store.specs.Seen.{seen}
 use Rattle.page_store.specs.Content.{Blocks, content}
 use Rattle.pg_types.specs.declared.status.Status.{Status}
 use Rattle.pg_types.specs.declared.status.Unknown.{Unknown}
@@ -17,23 +17,20 @@ use Rattle.standby_cli.specs.declared.reply.Reply.TheVariants as reply
 use Rattle.standby_cli.specs.declared.reply.Scan.{Scan}
 use Rattle.standby_cli.specs.declared.schema.Start.{Start}
 use Rattle.standby_cli.specs.declared.schema.Start.TheVariants as start
-
--- whether a snapshot sees a tuple, beside these statuses
-abbrev pub seen_by : SnapshotData → (ℕ → Status) → List ℕ → Result Bool Unknown
-seen_by snapshot statuses tuple = visible_of tuple snapshot no_parents statuses no_multixacts
+use Rattle.seq_scan.specs.Meaning.{seen_by}
 
 -- the rows of a block of a described table in a pool
 abbrev pub page_in : Description → SnapshotData → (ℕ → Status) → Blocks → ℕ → ℕ → BlockRows
 page_in tables snapshot statuses blocks table block =
-    block_rows (table_with tables table).columns (seen_by snapshot statuses) (seen (blocks table block))
+    block_rows (table_with tables table).columns (seen_by snapshot statuses no_multixacts) (seen (blocks table block))
 
 -- what a scan that was opened gives
-abbrev pub scan_meaning : Scan → scan.Reply
+abbrev pub scan_meaning : Scan → scan.Answer
 scan_meaning s =
     scan.Scanned s.at.0 (table_with s.tables s.table) s.blocks
     (scan.pages_from (page_in s.tables (in_numbers s.snapshot) (status_of s.state.log) (content s.pool) s.table) 0 s.blocks)
 
-abbrev pub reply_meaning : Reply → scan.Reply
+abbrev pub reply_meaning : Reply → scan.Answer
 reply_meaning reply.BadWords = scan.BadWords
 reply_meaning reply.SchemaMissing = scan.SchemaMissing
 reply_meaning (reply.SchemaRefused fault) = scan.SchemaRefused fault

@@ -21,8 +21,8 @@ abbrev pub IsAtOnce : ℕ → Type 0
 IsAtOnce status = (status ≡ 2) ⊎ ((status ≡ 3) ⊎ (status ≡ 4))
 
 -- the status is that of an answer
-abbrev pub IsReplied : ℕ → Type 0
-IsReplied status = (status ≡ 0) ⊎ ((status ≡ 1) ⊎ ((status ≡ 5) ⊎ IsAtOnce status))
+abbrev pub IsAnswerStatus : ℕ → Type 0
+IsAnswerStatus status = (status ≡ 0) ⊎ ((status ≡ 1) ⊎ ((status ≡ 5) ⊎ IsAtOnce status))
 
 -- the status is that of a fault
 abbrev pub IsFault : ℕ → Type 0

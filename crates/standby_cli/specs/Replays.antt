@@ -9,10 +9,10 @@ use Rattle.standby_core.specs.View.{standby}
 use Rattle.standby_model.specs.Archived.{segment_size}
 use Rattle.standby_model.specs.Log.{Stands, Ended, next_of}
 use Rattle.scan_model.specs.Run.{origin, replayed}
-use Rattle.scan_model.specs.Scan.{AnswersNext, AnswersTable, LogRefused, Reply}
+use Rattle.scan_model.specs.Scan.{AnswersNext, AnswersTable, LogRefused, Answer}
 use Rattle.scan_model.specs.Tables.{number_named}
-use Rattle.standby_cli.specs.declared.replay.Replay.{Replay}
-use Rattle.standby_cli.specs.declared.replay.Replay.TheVariants as replay
+use Rattle.standby_cli.specs.declared.replay.LogEnd.{LogEnd}
+use Rattle.standby_cli.specs.declared.replay.LogEnd.TheVariants as replay
 
 -- the log of timeline 1 of system 7 with these bytes
 abbrev pub told : (ℕ → Option ℕ) → Told
@@ -33,19 +33,19 @@ StandsIn tables bytes node =
     IfSome bytes (λ byte. AreTold byte node.kept × ((log : List Rec) × HasReplayed tables byte log (bare node)))
 
 -- the log was replayed to its end, or to a record that is refused
-abbrev pub IsReplayedOf : Description → (ℕ → Option ℕ) → Replay → Type 0
-IsReplayedOf tables byte (replay.Ended node why) =
+abbrev pub IsLogEndOf : Description → (ℕ → Option ℕ) → LogEnd → Type 0
+IsLogEndOf tables byte (replay.Ended node why) =
     (log : List Rec) × HasReplayed tables byte log (bare (standby node))
     × (next_of (told byte) (described_in tables) origin.redo.0 log ≡ Err (Ended why))
-IsReplayedOf tables byte (replay.Refused at what) =
+IsLogEndOf tables byte (replay.Refused at what) =
     (log : List Rec) × (node : Standby) × HasReplayed tables byte log node
     × ((name : List ℕ) → AnswersNext name node (next_of (told byte) (described_in tables) origin.redo.0 log) (LogRefused at.0 what))
 
-abbrev pub IsReplayed : Description → Option (ℕ → Option ℕ) → Replay → Type 0
-IsReplayed tables bytes replayed = IfSome bytes (λ byte. IsReplayedOf tables byte replayed)
+abbrev pub IsLogEnd : Description → Option (ℕ → Option ℕ) → LogEnd → Type 0
+IsLogEnd tables bytes replayed = IfSome bytes (λ byte. IsLogEndOf tables byte replayed)
 
 -- the answer where replay left this
-abbrev pub AnswersReplay : List ℕ → Replay → Reply → Type 0
-AnswersReplay name (replay.Ended node why) reply =
+abbrev pub AnswersLogEnd : List ℕ → LogEnd → Answer → Type 0
+AnswersLogEnd name (replay.Ended node why) reply =
     AnswersTable (bare (standby node)) (number_named (standby node).tables name) reply
-AnswersReplay name (replay.Refused at what) reply = reply ≡ LogRefused at.0 what
+AnswersLogEnd name (replay.Refused at what) reply = reply ≡ LogRefused at.0 what

@@ -3,13 +3,13 @@ ghost use Rattle.outside.specs.Faults.{Rose};
 ghost use Rattle.wal_archive.specs.ArchiveLog.{archived_bytes};
 ghost use Rattle.standby_core.specs.View.{standby};
 ghost use Rattle.standby_model.specs.Archived.{segment_size};
-ghost use Rattle.scan_model.specs.Scan.{Reply as Said, Answers, AnswersLog, AnswersTable, BadWords, Starts, Stops, status_of, table_of};
+ghost use Rattle.scan_model.specs.Scan.{Answer as Said, Answers, AnswersLog, AnswersTable, BadWords, Starts, Stops, exit_status, table_of};
 ghost use Rattle.standby_cli.specs.Meaning.{reply_meaning};
 ghost use Rattle.standby_cli.specs.Outcome.{IsAtOnce};
 ghost use Rattle.scan_model.specs.Tables.{number_named};
-ghost use Rattle.standby_cli.specs.Replays.{AnswersReplay, IsReplayed, bare};
+ghost use Rattle.standby_cli.specs.Replays.{AnswersLogEnd, IsLogEnd, bare};
 
-use crate::replay::{Replay, replay_log};
+use crate::replay::{LogEnd, replay_log};
 use crate::reply::Reply;
 use crate::scan::open_scan;
 use crate::schema::{Start, begin};
@@ -34,7 +34,7 @@ pub fn answer<A: Archive, B: BaseDir>(
         Answers (map string_bytes words.now) described files (reply_meaning reply)))) }
     ensures bad_words { IfOk result (λ reply. reply_meaning reply ≡ BadWords → table_of (map string_bytes words.now) ≡ None) }
     ensures at_once { table_of (map string_bytes words.now) ≡ None → IsOkAnd result (λ reply. reply_meaning reply ≡ BadWords) }
-    ensures settled { IfOk result (λ reply. IsAtOnce (status_of (reply_meaning reply)) → IfSome (B.files base.old) (λ described.
+    ensures settled { IfOk result (λ reply. IsAtOnce (exit_status (reply_meaning reply)) → IfSome (B.files base.old) (λ described.
         Starts (map string_bytes words.now) described (Stops (reply_meaning reply)))) }
     ensures stops { IfSome (B.files base.old) (λ described. (said : Said) → Starts (map string_bytes words.now) described (Stops said)
         → IfOk result (λ reply. reply_meaning reply ≡ said) × (A.fault_count archive.new ≡ A.fault_count archive.old)) }
@@ -60,7 +60,7 @@ fn answer_log<A: Archive>(
 ) -> Result<Reply, Fail>
     ensures told { IfOk result (λ reply. IfSome (A.files archive.old) (λ files.
         AnswersLog tables name.now files (reply_meaning reply))) }
-    ensures later { IfOk result (λ reply. IsAtOnce (status_of (reply_meaning reply)) → ⊥) }
+    ensures later { IfOk result (λ reply. IsAtOnce (exit_status (reply_meaning reply)) → ⊥) }
     ensures failed { result ≡ Err Fail.Failed → Rose (A.fault_count archive.old) (A.fault_count archive.new) }
     ensures uncounted { result ≢ Err Fail.Failed → A.fault_count archive.new ≡ A.fault_count archive.old }
 {
@@ -74,12 +74,12 @@ fn answer_log<A: Archive>(
 }
 
 /// The answer where replay left this.
-fn answer_replay(alloc: Global, name: &str, replayed: Replay) -> Result<Reply, NoMemory>
-    ensures { IfOk result (λ reply. AnswersReplay name.now replayed (reply_meaning reply)) }
+fn answer_replay(alloc: Global, name: &str, replayed: LogEnd) -> Result<Reply, NoMemory>
+    ensures { IfOk result (λ reply. AnswersLogEnd name.now replayed (reply_meaning reply)) }
 {
     match replayed {
-        Replay::Refused { at, what } => Ok(Reply::LogRefused { at, what }),
-        Replay::Ended { node, .. } => answer_table(alloc, name, node),
+        LogEnd::Refused { at, what } => Ok(Reply::LogRefused { at, what }),
+        LogEnd::Ended { node, .. } => answer_table(alloc, name, node),
     }
 }
 

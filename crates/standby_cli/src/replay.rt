@@ -4,7 +4,7 @@ ghost use Rattle.wal_archive.specs.ArchiveLog.{archived_bytes};
 ghost use Rattle.standby_core.specs.View.{standby};
 ghost use Rattle.standby_model.specs.Archived.{segment_size};
 ghost use Rattle.scan_model.specs.Run.{start};
-ghost use Rattle.standby_cli.specs.Replays.{IsReplayed};
+ghost use Rattle.standby_cli.specs.Replays.{IsLogEnd};
 
 use outside::Archive;
 use page_store::Pool;
@@ -23,7 +23,7 @@ const ORIGIN: Origin = Origin {
 
 /// What replay of a log leaves.
 #[derive(Drop)]
-pub enum Replay {
+pub enum LogEnd {
     /// The log ends here, by this rule.
     Ended { node: Node, why: EndWhy },
     /// The record at this position is refused.
@@ -47,8 +47,8 @@ pub fn replay_log<A: Archive>(
     alloc: Global,
     tables: Tables,
     archive: &mut A,
-) -> Result<Replay, Fail>
-    ensures replayed { IfOk result (IsReplayed tables (archived_bytes (A.files archive.old) segment_size)) }
+) -> Result<LogEnd, Fail>
+    ensures replayed { IfOk result (IsLogEnd tables (archived_bytes (A.files archive.old) segment_size)) }
     ensures failed { result ≡ Err Fail.Failed → Rose (A.fault_count archive.old) (A.fault_count archive.new) }
     ensures uncounted { result ≢ Err Fail.Failed → A.fault_count archive.new ≡ A.fault_count archive.old }
 {
@@ -61,8 +61,8 @@ pub fn replay_log<A: Archive>(
             Err(NodeFault::Archive) => return Err(Fail::Failed),
             Err(NodeFault::Memory) => return Err(Fail::Memory),
             Ok(Replayed::Applied { .. }) => {}
-            Ok(Replayed::AtEnd { why, .. }) => return Ok(Replay::Ended { node, why }),
-            Ok(Replayed::Refused { lsn, what }) => return Ok(Replay::Refused { at: lsn, what }),
+            Ok(Replayed::AtEnd { why, .. }) => return Ok(LogEnd::Ended { node, why }),
+            Ok(Replayed::Refused { lsn, what }) => return Ok(LogEnd::Refused { at: lsn, what }),
         }
     }
 }

@@ -2,7 +2,7 @@ use Rattle.std.proofs.Common.{ap, ◌∙◌}
 use Rattle.std.proofs.lemmas.Result.{IfOk-weaker}
 use Rattle.pg_types.specs.SegmentSizes.{sixteen_mebibytes}
 use Rattle.page_store.specs.Content.{content}
-use Rattle.heap_redo.specs.Redone.{View}
+use Rattle.page_store.specs.Seen.{View}
 use Rattle.standby_core.specs.Standby.{at_origin}
 use Rattle.scan_model.specs.Run.{origin}
 use Rattle.standby_cli.proofs.Replaying.{no_blocks}

@@ -2,7 +2,7 @@ use Rattle.std.proofs.Common.{◌≡◌, Bool, true, sym, ap, subst, ◌∙◌}
 use Rattle.page_store.specs.Content.{content}
 use Rattle.xact_redo.specs.State.{TransactionState, transactions}
 use Rattle.standby_core.specs.declared.types.NodeStatus.{NodeStatus}
-use Rattle.standby_core.specs.View.{standby, status_of}
+use Rattle.standby_core.specs.View.{standby, node_status}
 use Rattle.scan_model.specs.Scan.{AnswersOpening}
 use Rattle.standby_cli.specs.Replays.{bare}
 use Rattle.standby_cli.proofs.Opening.{count_is, is_known, not_admitted, opened, scanned}
@@ -20,7 +20,7 @@ take-requires c =
     ap (λ (t : TransactionState). t.known.mode) c.parts-tables.ensures.transactions ∙ known
 
 pub returns : goal.returns
-unfolding status_of
+unfolding node_status
 returns c =
     let node = standby c.args.node in
     let parts = c.parts-tables.result in

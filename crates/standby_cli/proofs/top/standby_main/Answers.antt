@@ -5,7 +5,7 @@ use Rattle.standby_cli.specs.Meaning.{reply_meaning}
 use Rattle.standby_cli.proofs.Faults.{cut_off_answer, cut_off_at_once}
 use Rattle.outside.specs.Sink.{Appends, AppendsPrefix}
 use Rattle.standby_cli.proofs.Legal.{legal_replies}
-use Rattle.scan_model.specs.Scan.{line, status_of, text_of}
+use Rattle.scan_model.specs.Scan.{line, exit_status, text_of}
 use Rattle.standby_cli.proofs.Starting.{told_reply}
 use Rattle.standby_cli.proofs.Statuses.{two_is}
 use Rattle.standby_cli.proofs.Words.{told_so, two_or}
@@ -30,7 +30,7 @@ returns-in-Err-Memory-clause-memory_line g c = λ twelve.
 pub returns-in-Ok-clause-replied : goal.returns-in-Ok-clause-replied
 returns-in-Ok-clause-replied g c = λ replied.
     told_reply (map string_bytes c.args.words.now) (g.B.BaseDir.files c.args.base.now) (g.A.Archive.files c.args.archive.now) (reply_meaning c.in-Ok.reply)
-    (λ reply. (c.finish.result ≡ status_of reply) × Appends (g.O.Sink.written c.args.out.now) (g.O.Sink.written c.finish.new.out) (text_of reply))
+    (λ reply. (c.finish.result ≡ exit_status reply) × Appends (g.O.Sink.written c.args.out.now) (g.O.Sink.written c.finish.new.out) (text_of reply))
     c.in-Ok.ensures.told (c.finish.ensures.replied replied)
 
 pub returns-in-Ok-clause-sink_text : goal.returns-in-Ok-clause-sink_text
@@ -42,7 +42,7 @@ returns-in-Ok-clause-sink_text g c = λ nine.
 pub returns-in-Ok-clause-rows : goal.returns-in-Ok-clause-rows
 returns-in-Ok-clause-rows g c = λ replied.
     legal_replies c.legal_scan.ensures (map string_bytes c.args.words.now) (g.B.BaseDir.files c.args.base.now) (g.A.Archive.files c.args.archive.now)
-    (λ reply. (c.finish.result ≡ status_of reply) × Appends (g.O.Sink.written c.args.out.now) (g.O.Sink.written c.finish.new.out) (text_of reply))
+    (λ reply. (c.finish.result ≡ exit_status reply) × Appends (g.O.Sink.written c.args.out.now) (g.O.Sink.written c.finish.new.out) (text_of reply))
     (reply_meaning c.in-Ok.reply) (g.met.A.Archive.bytes c.args.archive.now) c.in-Ok.ensures.told (c.finish.ensures.replied replied)
 
 pub returns-in-Ok-clause-words : goal.returns-in-Ok-clause-words

@@ -1,6 +1,6 @@
 use Rattle.std.proofs.Common.{List}
 use Rattle.commit_log.specs.Log.{status_of}
-use Rattle.heap_redo.specs.Redone.{seen}
+use Rattle.page_store.specs.Seen.{seen}
 use Rattle.heap_tuple.specs.declared.cell.Column.{Column}
 use Rattle.page_store.specs.Content.{content}
 use Rattle.scan_model.specs.Tables.{table_with}
