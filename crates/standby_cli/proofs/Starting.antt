@@ -56,6 +56,7 @@ reply_of other (Stops reply) = reply
 reply_of other (Scans tables name) = other
 
 pub same_reply : (a b : Answer) → Stops a ≡ Stops b → a ≡ b
+unfolding reply_of
 same_reply a b e = ap (reply_of a) e
 
 pub stops_so :
@@ -110,3 +111,12 @@ pub fails_with :
     → IfSome base (λ described. (said : Answer) → Starts words described (Stops said) → ((status ≡ exit_status said) ⊎ IsFault status) × same)
 fails_with words None status same stops fault = tt
 fails_with words (Some described) status same stops fault = λ said begins. (inr fault, (stops said begins).1)
+
+-- what was answered, where base folder and archive tell their files
+pub told_reply :
+    (words : List (List ℕ)) (base files : Option (List ℕ → Option (List ℕ))) (given : Answer) (P : Answer → Type 0)
+    → IfSome base (λ described. IfSome files (λ fs. Answers words described fs given)) → P given
+    → IfSome base (λ described. IfSome files (λ fs. (reply : Answer) × Answers words described fs reply × P reply))
+told_reply words None files given P answers holds = tt
+told_reply words (Some described) None given P answers holds = tt
+told_reply words (Some described) (Some fs) given P answers holds = (given, answers, holds)
