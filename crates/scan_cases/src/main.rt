@@ -4,6 +4,7 @@
 //! written and what has to be printed, in the file stdout, was worked out by hand.
 #![tactic(auto)]
 
+mod nodes;
 mod schemas;
 
 use case_text::{bytes, number_u32};
@@ -98,6 +99,7 @@ const SEGMENTED: [(&str, &[u8]); 4] = [
 ];
 
 fn main(rt: HostRuntime) -> io::Result<()> {
+    nodes::answer_all(&rt)?;
     let mut base = base_of(&rt, "worked")?;
     for name in CASES {
         let mut archive = archive_of(&rt, name)?;

@@ -1,13 +1,14 @@
-//! Logs in memory.
+//! Logs in memory, and what is asked of any log.
 
+use crate::archives::failed;
 use case_text::{ShowHex, Wrong, bytes, number_u8, number_u64, position};
 use outside::{LogBytes, MemoryLog, SteadyLog};
-use pg_types::{Fail, Lsn};
+use pg_types::Lsn;
 use std::alloc::Global;
 
-/// `from POSITION HEX`, then `most N cut POSITION failing CALL` or not, then `ask POSITION ROOM ..`.
+/// `POSITION HEX`, then `most N cut POSITION failing CALL` or not, then `ask POSITION ROOM ..`.
 pub fn answer(rt: &HostRuntime, question: &[&str]) -> Result<(), Wrong> {
-    let ["from", start, hex, ref rest @ ..] = *question else {
+    let [start, hex, ref rest @ ..] = *question else {
         return Err(Wrong::Line);
     };
     let mut log = steady(rt.alloc(), start, hex)?;
@@ -28,8 +29,8 @@ fn steady(alloc: Global, start: &str, hex: &str) -> Result<SteadyLog, Wrong> {
     Ok(SteadyLog::new(alloc, position(start)?, text.as_slice())?)
 }
 
-/// Asks for the bytes at each position, of which so many find room.
-fn ask<L: LogBytes>(rt: &HostRuntime, log: &mut L, asked: &[&str]) -> Result<(), Wrong> {
+/// `ask POSITION ROOM ..`: asks for the bytes at each position, of which so many find room.
+pub fn ask<L: LogBytes>(rt: &HostRuntime, log: &mut L, asked: &[&str]) -> Result<(), Wrong> {
     let mut rest = asked;
     for _ in 0..asked.len() {
         match *rest {
@@ -57,8 +58,7 @@ fn ask_once<L: LogBytes>(rt: &HostRuntime, log: &mut L, at: Lsn, room: u8) -> Re
             let (told, _) = front.split_at(count.min(front.len()));
             print!(rt; "{}, ", ShowHex(told))?;
         }
-        Err(Fail::Failed) => print!(rt; "failed, ")?,
-        Err(Fail::Memory) => print!(rt; "out of memory, ")?,
+        Err(fail) => print!(rt; "{}, ", failed(fail))?,
     }
     Ok(())
 }
