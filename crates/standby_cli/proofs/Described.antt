@@ -1,10 +1,9 @@
 -- What is printed of the described table with a number.
-use Rattle.std.proofs.Common.{◌≡◌, ◌<◌, ◌≤◌, ℕ, List, [], Option, Some, None, IfSome, length, refl, ap, sym, ◌∙◌}
+use Rattle.std.proofs.Common.{◌≡◌, ℕ, List, [], Option, Some, None, ap}
 use Rattle.std.specs.Prelude.{option_map, option_and_then, slice_get, unwrap_or}
-use Rattle.heap_tuple.specs.declared.cell.Column.{Column}
-use Rattle.table_schema.specs.Description.{Description, DescribedTable, table_at}
+use Rattle.table_schema.specs.Description.{DescribedTable}
 use Rattle.scan_model.specs.Scan.{column_name}
-use Rattle.scan_model.specs.Tables.{nameless, table_with}
+use Rattle.scan_model.specs.Tables.{nameless}
 
 -- what is said of the table that is there is said of the table with the number
 pub of_table :

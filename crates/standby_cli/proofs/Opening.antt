@@ -9,8 +9,7 @@ use Rattle.page_store.specs.declared.pool.Pool.{Pool}
 use Rattle.page_store.specs.Content.{Blocks, content}
 use Rattle.commit_log.specs.Log.{status_of as statuses_in}
 use Rattle.page_store.specs.Seen.{View, bad_block, seen, seen_page, view_of}
-use Rattle.known_assigned.specs.declared.state.State.{State}
-use Rattle.known_assigned.specs.declared.state.State.TheVariants.{Initialized, Pending, Ready}
+use Rattle.known_assigned.specs.declared.state.State.TheVariants.{Ready}
 use Rattle.seq_scan.specs.BlockRows.{BlockRows, block_rows}
 use Rattle.standby_snapshot.specs.declared.Snapshot.{Snapshot}
 use Rattle.standby_snapshot.specs.Snapshot.{SnapshotData, in_numbers, take_of}
@@ -21,7 +20,7 @@ use Rattle.standby_core.specs.declared.types.NodeStatus.{NodeStatus}
 use Rattle.standby_core.specs.Standby.{Standby}
 use Rattle.standby_core.specs.View.{node_status}
 use Rattle.table_schema.specs.Description.{Description}
-use Rattle.scan_model.specs.Scan.{AnswersOpening, AnswersRows, NotAdmitted, Answer, Scanned, is_admitted, is_ready, is_there, pages_from}
+use Rattle.scan_model.specs.Scan.{AnswersOpening, AnswersRows, NotAdmitted, Answer, Scanned, is_admitted, is_there, pages_from}
 use Rattle.scan_model.specs.Tables.{table_with}
 use Rattle.standby_cli.specs.Meaning.{page_in}
 use Rattle.standby_cli.specs.Replays.{bare}

@@ -9,7 +9,6 @@ use Rattle.wal_reader.specs.Kept.{AreTold}
 use Rattle.wal_reader.specs.Told.{Told, told_bytes}
 use Rattle.wal_archive.specs.ArchiveLog.{archived_byte, archived_bytes}
 use Rattle.page_store.specs.Seen.{View, absent, seen, view_of}
-use Rattle.heap_redo.specs.Redone.{redone}
 use Rattle.heap_redo.specs.declared.fault.RedoFault.{RedoFault}
 use Rattle.page_store.specs.Content.{Blocks}
 use Rattle.standby_core.specs.declared.types.Refusal.{Refusal}

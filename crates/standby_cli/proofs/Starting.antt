@@ -1,5 +1,5 @@
 -- How a run begins, and what is answered by it.
-use Rattle.std.proofs.Common.{◌≡◌, ◌⊎◌, ℕ, List, Option, Some, None, IfSome, Result, Ok, Err, IfOk, inl, inr, refl, ap, subst, sym, ◌∙◌}
+use Rattle.std.proofs.Common.{◌≡◌, ◌⊎◌, ℕ, List, Option, Some, None, IfSome, Result, Ok, Err, IfOk, inl, inr, refl, ap, ◌∙◌}
 use Rattle.pg_types.specs.declared.fail.Fail.{Fail}
 use Rattle.table_schema.specs.Description.{Description}
 use Rattle.schema_file.specs.SchemaFile.{Reading, AnswersFile}
@@ -120,3 +120,12 @@ pub told_reply :
 told_reply words None files given P answers holds = tt
 told_reply words (Some described) None given P answers holds = tt
 told_reply words (Some described) (Some fs) given P answers holds = (given, answers, holds)
+
+-- and two things of it
+pub told_both :
+    (words : List (List ℕ)) (base files : Option (List ℕ → Option (List ℕ))) (given : Answer) (P Q : Answer → Type 0)
+    → IfSome base (λ described. IfSome files (λ fs. Answers words described fs given)) → P given × Q given
+    → IfSome base (λ described. IfSome files (λ fs. (reply : Answer) × Answers words described fs reply × P reply × Q reply))
+told_both words None files given P Q answers holds = tt
+told_both words (Some described) None given P Q answers holds = tt
+told_both words (Some described) (Some fs) given P Q answers holds = (given, answers, holds.0, holds.1)

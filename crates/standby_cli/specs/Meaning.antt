@@ -1,12 +1,10 @@
 -- What the program's answers mean in the model.
-use Rattle.std.specs.Prelude.{ℕ, Bool, List, Result}
+use Rattle.std.specs.Prelude.{ℕ}
 use Rattle.page_store.specs.Seen.{seen}
 use Rattle.page_store.specs.Content.{Blocks, content}
 use Rattle.pg_types.specs.declared.status.Status.{Status}
-use Rattle.pg_types.specs.declared.status.Unknown.{Unknown}
 use Rattle.commit_log.specs.Log.{status_of}
-use Rattle.standby_snapshot.specs.Snapshot.{SnapshotData, in_numbers, no_parents}
-use Rattle.tuple_visibility.specs.Visible.{visible_of}
+use Rattle.standby_snapshot.specs.Snapshot.{SnapshotData, in_numbers}
 use Rattle.seq_scan.specs.BlockRows.{BlockRows, block_rows}
 use Rattle.xact_redo.specs.Sees.{no_multixacts}
 use Rattle.table_schema.specs.Description.{Description}

@@ -1,4 +1,4 @@
-use Rattle.std.proofs.Common.{◌≡◌, refl, map}
+use Rattle.std.proofs.Common.{refl, map}
 use Rattle.std.specs.Prelude.{string_bytes}
 use Rattle.standby_cli.specs.Meaning.{reply_meaning}
 use Rattle.standby_cli.proofs.Starting.{stops_so}

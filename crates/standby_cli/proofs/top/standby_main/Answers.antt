@@ -6,7 +6,7 @@ use Rattle.standby_cli.proofs.Faults.{cut_off_answer, cut_off_at_once}
 use Rattle.outside.specs.Sink.{Appends, AppendsPrefix}
 use Rattle.standby_cli.proofs.Legal.{legal_replies}
 use Rattle.scan_model.specs.Scan.{line, exit_status, text_of}
-use Rattle.standby_cli.proofs.Starting.{told_reply}
+use Rattle.standby_cli.proofs.Starting.{told_both, told_reply}
 use Rattle.standby_cli.proofs.Statuses.{two_is}
 use Rattle.standby_cli.proofs.Words.{told_so, two_or}
 use Rattle.standby_cli.proofs.top.standby_main.Goals as goal
@@ -29,8 +29,8 @@ returns-in-Err-Memory-clause-memory_line g c = λ twelve.
 
 pub returns-in-Ok-clause-replied : goal.returns-in-Ok-clause-replied
 returns-in-Ok-clause-replied g c = λ replied.
-    told_reply (map string_bytes c.args.words.now) (g.B.BaseDir.files c.args.base.now) (g.A.Archive.files c.args.archive.now) (reply_meaning c.in-Ok.reply)
-    (λ reply. (c.finish.result ≡ exit_status reply) × Appends (g.O.Sink.written c.args.out.now) (g.O.Sink.written c.finish.new.out) (text_of reply))
+    told_both (map string_bytes c.args.words.now) (g.B.BaseDir.files c.args.base.now) (g.A.Archive.files c.args.archive.now) (reply_meaning c.in-Ok.reply)
+    (λ reply. c.finish.result ≡ exit_status reply) (λ reply. Appends (g.O.Sink.written c.args.out.now) (g.O.Sink.written c.finish.new.out) (text_of reply))
     c.in-Ok.ensures.told (c.finish.ensures.replied replied)
 
 pub returns-in-Ok-clause-sink_text : goal.returns-in-Ok-clause-sink_text
