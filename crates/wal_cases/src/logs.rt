@@ -1,4 +1,5 @@
 //! What the reader reads of a log.
+use crate::memory_logs;
 use crate::records::prev_rule;
 use case_text::{ShowPosition, Wrong, number_u64, position};
 use outside::{MemoryLog, SteadyLog};
@@ -49,6 +50,7 @@ pub fn answer(rt: &HostRuntime, question: &[&str], text: &[u8]) -> Result<(), Wr
             println!(rt; "{out}")?;
             Ok(())
         }
+        ["log", "from", ref asked @ ..] => memory_logs::answer(rt, asked),
         _ => Err(Wrong::Line),
     }
 }

@@ -1,5 +1,6 @@
 //! Sinks in memory, and standard output.
 
+use crate::archives::failed;
 use case_text::{ShowHex, Wrong, bytes, number_u64};
 use outside::{MemorySink, Sink, StdoutSink, SteadySink};
 use pg_types::Fail;
@@ -60,8 +61,7 @@ fn writes<O: Sink>(rt: &HostRuntime, sink: &mut O, asked: &[&str]) -> Result<(),
 fn tell(rt: &HostRuntime, answer: Result<(), Fail>) -> Result<(), Wrong> {
     match answer {
         Ok(()) => print!(rt; "taken, ")?,
-        Err(Fail::Failed) => print!(rt; "failed, ")?,
-        Err(Fail::Memory) => print!(rt; "out of memory, ")?,
+        Err(fail) => print!(rt; "{}, ", failed(fail))?,
     }
     Ok(())
 }
