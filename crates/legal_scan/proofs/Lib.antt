@@ -1,3 +1,4 @@
 pub mod Along
 pub mod Answered
+pub mod Described
 pub mod Fitting

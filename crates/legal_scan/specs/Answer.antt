@@ -18,11 +18,13 @@ use Rattle.row_model.specs.Multixacts.{multixacts}
 use Rattle.row_model.specs.LegalRows.{LegalLog}
 use Rattle.row_pages.specs.Pages.{is_in_block, values_of}
 use Rattle.standby_core.specs.Replay.{ends_backup, refusal_of}
+use Rattle.standby_core.specs.Standby.{described_in}
 use Rattle.standby_model.specs.Archived.{told_by}
 use Rattle.standby_model.specs.Log.{IsLog, Stands, Stop, Ended, Refused, end_of}
+use Rattle.table_schema.specs.Description.{Description, locators}
 use Rattle.scan_model.specs.Run.{origin}
-use Rattle.scan_model.specs.Tables.{described, known, number_of, table_with}
-use Rattle.scan_model.specs.Scan.{Reply, LogRefused, NoTable, NotAdmitted, Scanned, AnswersLog, is_ready, pages_from, table_of}
+use Rattle.scan_model.specs.Tables.{file_of, number_named, table_with}
+use Rattle.scan_model.specs.Scan.{Reply, LogRefused, NoTable, NotAdmitted, Scanned, Scans, Starts, Answers, is_ready, pages_from}
 
 -- where the log begins the tables are empty and no transaction has a status; `top` leads from a subtransaction to its top
 -- transaction
@@ -32,10 +34,11 @@ origin_with top = record {
   tables = λ table. empty_table;
 }
 
--- a primary could write each front of the log that the files tell
-abbrev pub IsLegal : (ℕ → ℕ) → (List ℕ → Option (List ℕ)) → Type 0
-IsLegal top files =
-    (log : List Rec) → Stands (told_by files) described origin.redo.0 log → LegalLog (origin_with top) known log
+-- a primary with these tables could write each front of the log that the files tell
+abbrev pub IsLegal : Description → (ℕ → ℕ) → (List ℕ → Option (List ℕ)) → Type 0
+IsLegal tables top files =
+    (log : List Rec) → Stands (told_by files) (described_in tables) origin.redo.0 log
+    → LegalLog (origin_with top) (locators tables) log
 
 -- the base backup, which began at the redo position, has ended
 abbrev pub has_backup_ended : List Rec → Bool
@@ -45,50 +48,55 @@ has_backup_ended log = list_any (λ (rec : Rec). ends_backup origin.redo rec.kin
 abbrev pub admits : List Rec → Bool
 admits log = has_backup_ended log && is_ready (state_of (transactions_of log))
 
--- the rows of a block: their values, up to the first that is refused
-abbrev pub page_with : ℕ → List Version → ℕ → BlockRows
-page_with table rows block = values_of (table_with table).columns (filter (is_in_block block) rows)
+-- the rows of a block of the table with this number: their values, up to the first that is refused
+abbrev pub page_with : Description → ℕ → List Version → ℕ → BlockRows
+page_with tables table rows block = values_of (table_with tables table).columns (filter (is_in_block block) rows)
 
 -- a scan at the log's end, of the table's rows, block by block
-pub record AnswersRows (top : ℕ → ℕ) (log : List Rec) (table end : ℕ) (reply : Reply) : Type 0 where
+pub record AnswersRows (tables : Description) (top : ℕ → ℕ) (log : List Rec) (table end : ℕ) (reply : Reply) : Type 0 where
   pub rows : List Version
   pub are_rows :
-      IsRows (multixacts log) (committed_in (origin_with top) log) (versions (origin_with top) (table_with table).file log) rows
+      IsRows (multixacts log) (committed_in (origin_with top) log) (versions (origin_with top) (file_of tables table) log) rows
   pub says :
-      reply ≡ Scanned end table (block_count (origin_with top) (table_with table).file log)
-      (pages_from (page_with table rows) 0 (block_count (origin_with top) (table_with table).file log))
+      reply ≡ Scanned end (table_with tables table) (block_count (origin_with top) (file_of tables table) log)
+      (pages_from (page_with tables table rows) 0 (block_count (origin_with top) (file_of tables table) log))
 
 -- or why it is not admitted
-abbrev pub AnswersAdmitted : Bool → (ℕ → ℕ) → List Rec → ℕ → ℕ → Reply → Type 0
-AnswersAdmitted true top log table end reply = AnswersRows top log table end reply
-AnswersAdmitted false top log table end reply =
+abbrev pub AnswersAdmitted : Bool → Description → (ℕ → ℕ) → List Rec → ℕ → ℕ → Reply → Type 0
+AnswersAdmitted true tables top log table end reply = AnswersRows tables top log table end reply
+AnswersAdmitted false tables top log table end reply =
     reply ≡ NotAdmitted origin.redo.0 end (not (has_backup_ended log)) (state_of (transactions_of log))
 
 -- where the log ends, by the table
-abbrev pub AnswersTable : (ℕ → ℕ) → List Rec → Option ℕ → Reply → Type 0
-AnswersTable top log None reply = reply ≡ NoTable
-AnswersTable top log (Some table) reply = AnswersAdmitted (admits log) top log table (end_of origin.redo.0 log) reply
+abbrev pub AnswersTable : Description → (ℕ → ℕ) → List Rec → Option ℕ → Reply → Type 0
+AnswersTable tables top log None reply = reply ≡ NoTable
+AnswersTable tables top log (Some table) reply =
+    AnswersAdmitted (admits log) tables top log table (end_of origin.redo.0 log) reply
 
 -- the next record is refused for its form or its body, or the log ends
-abbrev pub AnswersStop : (ℕ → ℕ) → List ℕ → List Rec → Stop → Reply → Type 0
-AnswersStop top name log (Refused what) reply = reply ≡ LogRefused (end_of origin.redo.0 log) (refusal_of what)
-AnswersStop top name log (Ended why) reply = AnswersTable top log (number_of name) reply
+abbrev pub AnswersStop : Description → (ℕ → ℕ) → List ℕ → List Rec → Stop → Reply → Type 0
+AnswersStop tables top name log (Refused what) reply = reply ≡ LogRefused (end_of origin.redo.0 log) (refusal_of what)
+AnswersStop tables top name log (Ended why) reply = AnswersTable tables top log (number_named tables name) reply
 
--- the answer over the log that the files tell, where a primary could write each front of it
-pub record LegalAnswer (top : ℕ → ℕ) (files : List ℕ → Option (List ℕ)) (name : List ℕ) (reply : Reply) : Type 0 where
+-- the answer over the log that the files tell, where a primary with these tables could write each front of it
+pub record LegalAnswer (tables : Description) (top : ℕ → ℕ) (files : List ℕ → Option (List ℕ)) (name : List ℕ) (reply : Reply) : Type 0 where
   pub log : List Rec
   pub stop : Stop
-  pub is_log : IsLog (told_by files) described origin.redo.0 log stop
-  pub says : AnswersStop top name log stop reply
+  pub is_log : IsLog (told_by files) (described_in tables) origin.redo.0 log stop
+  pub says : AnswersStop tables top name log stop reply
 
--- what is answered over a legal log is that; what files contain are bytes
+-- Where the words are `scan` and a table, and the base folder describes these tables, what is answered over a legal log is
+-- that. What files contain are bytes.
 abbrev pub LegalScan : Type 0
 LegalScan =
-    (top : ℕ → ℕ) (files : List ℕ → Option (List ℕ)) (name : List ℕ) (reply : Reply)
-    → HaveBytes (Some files) → IsLegal top files → AnswersLog name files reply → LegalAnswer top files name reply
+    (words : List (List ℕ)) (base : List ℕ → Option (List ℕ)) (tables : Description) (name : List ℕ)
+    → Starts words base (Scans tables name) → (top : ℕ → ℕ) (files : List ℕ → Option (List ℕ)) (reply : Reply)
+    → HaveBytes (Some files) → IsLegal tables top files → Answers words base files reply
+    → LegalAnswer tables top files name reply
 
--- where the files tell a legal log, the answer to words that are `scan` and a table is that
-abbrev pub WhereLegal : List (List ℕ) → (List ℕ → Option (List ℕ)) → (Reply → Type 0) → Type 0
-WhereLegal words files P =
-    (top : ℕ → ℕ) (name : List ℕ) → IsLegal top files → table_of words ≡ Some name
-    → (reply : Reply) × LegalAnswer top files name reply × P reply
+-- where the files tell a log that is legal over the tables that the base folder describes, the answer to words that are
+-- `scan` and a table is that
+abbrev pub WhereLegal : List (List ℕ) → (List ℕ → Option (List ℕ)) → (List ℕ → Option (List ℕ)) → (Reply → Type 0) → Type 0
+WhereLegal words base files P =
+    (top : ℕ → ℕ) (tables : Description) (name : List ℕ) → Starts words base (Scans tables name) → IsLegal tables top files
+    → (reply : Reply) × LegalAnswer tables top files name reply × P reply

@@ -9,6 +9,7 @@ ghost use Rattle.legal_scan.specs.Answer.{LegalScan};
 pub fn legal_scan()
     ensures { LegalScan }
 {
+    table_schema::tables_are_apart();
     standby_model::log_rises();
     record_numbers::told_numbers_fit();
     row_redo::blocks_show_versions();

@@ -7,3 +7,5 @@ pub mod LogEnds
 pub mod Memory
 pub mod Plan
 pub mod Sink
+pub mod Source
+pub mod Texts

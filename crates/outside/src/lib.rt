@@ -9,8 +9,10 @@ pub mod log;
 pub mod memory_files;
 pub mod memory_log;
 pub mod memory_sink;
+pub mod memory_source;
 pub mod real;
 pub mod sink;
+pub mod source;
 mod stored;
 
 pub use archive::Archive;
@@ -22,5 +24,7 @@ pub use memory_files::{
 };
 pub use memory_log::{MemoryLog, SteadyLog};
 pub use memory_sink::{MemorySink, SteadySink};
-pub use real::{Folder, StdoutSink};
+pub use memory_source::{MemorySource, SteadySource};
+pub use real::{Folder, StdinSource, StdoutSink};
 pub use sink::Sink;
+pub use source::Source;

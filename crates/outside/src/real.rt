@@ -1,5 +1,5 @@
 // The real objects. They tell no content and count their failures.
-ghost use Rattle.std.specs.Prelude.{◌≡◌, ◌≢◌, ◌≤◌, length, IfOk, None, Err};
+ghost use Rattle.std.specs.Prelude.{◌≡◌, ◌≢◌, ◌≤◌, ◌^◌, length, IfOk, None, Err};
 ghost use Rattle.outside.specs.Archive.{FitsIn};
 ghost use Rattle.outside.specs.Faults.{HasCause, Rose, counted};
 ghost use Rattle.outside.specs.Counts.{counted_IsCount, counted_le};
@@ -8,11 +8,15 @@ use crate::archive::Archive;
 use crate::base::BaseDir;
 use crate::faults::FaultCount;
 use crate::sink::Sink;
+use crate::source::Source;
 use pg_types::Fail;
 use std::alloc::Global;
 use std::io::{ErrorKind, Read, Seek, SeekFrom, Write};
 use std::rt::Files;
 use std::{fs, io};
+
+/// The most bytes that are read from a source.
+const MOST_READ: u64 = 0x4000_0000_0000_0000;
 
 /// A folder of the current folder: `archive` or `base`.
 #[derive(Drop)]
@@ -144,6 +148,63 @@ impl<R: Print> Sink for StdoutSink<'_, R> {
     }
 
     ghost counts = { λ sink. counted_le sink.count.faults };
+}
+
+/// Standard input, or whatever else is read. At most 2^62 bytes are read from it.
+#[derive(Drop)]
+pub struct StdinSource<R: Read> {
+    reader: R,
+    read: u64,
+    count: FaultCount,
+    ghost within: { read ≤ 2 ^ 62 },
+}
+
+impl<R: Read> StdinSource<R> {
+    pub fn new(reader: R) -> StdinSource<R>
+        ensures { counted result.count.faults ≡ 0 }
+    {
+        StdinSource {
+            reader,
+            read: 0,
+            count: FaultCount::new(),
+        }
+    }
+}
+
+impl<R: Read> Source for StdinSource<R> {
+    ghost rest = { λ _. None };
+
+    ghost taken_count = { λ source. source.read };
+
+    ghost fault_count = { λ source. counted source.count.faults };
+
+    fn read(&mut self, buf: &mut [u8]) -> Result<usize, Fail> {
+        let room = (buf.len() as u64).min(MOST_READ - self.read) as usize;
+        if room == 0 && !buf.is_empty() {
+            return Err(failure(&mut self.count, ErrorKind::FileTooLarge));
+        }
+        match self.reader.read(&mut buf[..room]) {
+            Ok(count) => {
+                self.read += count as u64;
+                Ok(count)
+            }
+            Err(error) => Err(failure(&mut self.count, error.kind())),
+        }
+    }
+
+    fn taken(&self) -> u64 {
+        self.read
+    }
+
+    fn faults(&self) -> u64 {
+        self.count.value()
+    }
+
+    ghost counts = { λ source. counted_IsCount source.count.faults };
+
+    ghost within = { λ source. source.within };
+
+    ghost bytes = { λ _. tt };
 }
 
 // What a failed call of the file system is to its caller; a fault is counted.

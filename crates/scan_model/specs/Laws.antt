@@ -2,7 +2,8 @@
 use Rattle.std.specs.Prelude.{◌≡◌, ℕ, List, Option}
 use Rattle.scan_model.specs.Scan.{Answers, Reply}
 
--- one answer exists for given words and files
+-- one answer exists for given words, files of the base folder, and files of the archive
 abbrev pub OneAnswer : Type 0
 OneAnswer =
-    (words : List (List ℕ)) (files : List ℕ → Option (List ℕ)) (a b : Reply) → Answers words files a → Answers words files b → a ≡ b
+    (words : List (List ℕ)) (base files : List ℕ → Option (List ℕ)) (a b : Reply) → Answers words base files a
+    → Answers words base files b → a ≡ b

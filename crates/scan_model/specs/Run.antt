@@ -6,20 +6,20 @@ use Rattle.wal_record.specs.declared.types.PrevRule.TheVariants.{Is}
 use Rattle.wal_bodies.specs.declared.types.Rec.{Rec}
 use Rattle.heap_redo.specs.declared.fault.RedoFault.{RedoFault}
 use Rattle.heap_redo.specs.Redone.{View, absent, redone}
+use Rattle.table_schema.specs.Description.{Description, locators}
 use Rattle.xact_redo.specs.State.{state_after}
 use Rattle.standby_core.specs.declared.types.Origin.{Origin}
 use Rattle.standby_core.specs.Standby.{Standby, at_origin}
 use Rattle.standby_core.specs.Replay.{awaited_after}
 use Rattle.standby_model.specs.Archived.{segment_size}
-use Rattle.scan_model.specs.Tables.{database, known}
 
--- the redo position of the base backup: after the long page header of segment 2. The next transaction id there is 700
+-- the redo position of the base backup: after the long page header of segment 2
 abbrev pub origin : Origin
-origin = record { system = 7; segsize = segment_size; redo = record { 0 = 0x2000028 }; next = record { 0 = 700 } }
+origin = record { system = 7; segsize = segment_size; redo = record { 0 = 0x2000028 } }
 
 -- a standby as its life begins: the described tables have no blocks
-abbrev pub start : Standby
-start = at_origin database known origin (λ table block. absent)
+abbrev pub start : Description → Standby
+start tables = at_origin tables origin (λ table block. absent)
 
 -- a standby after a record that leaves these blocks
 abbrev pub applied : Rec → View → Standby → Standby
@@ -38,13 +38,15 @@ unless_faulty rec node blocks (Err fault) = Err fault
 
 abbrev pub redone_at : Rec → Standby → Result Standby RedoFault
 redone_at rec node =
-    unless_faulty rec node (redone rec known rec.blocks node.blocks).0 (redone rec known rec.blocks node.blocks).1
+    unless_faulty rec node (redone rec (locators node.tables) rec.blocks node.blocks).0
+    (redone rec (locators node.tables) rec.blocks node.blocks).1
 
 abbrev pub redone_on : Rec → Result Standby RedoFault → Result Standby RedoFault
 redone_on rec (Ok node) = redone_at rec node
 redone_on rec (Err fault) = Err fault
 
--- the standby that replayed these records, the newest first, or the fault of the first one that is refused
-abbrev pub replayed : List Rec → Result Standby RedoFault
-replayed [] = Ok start
-replayed (rec ∷ older) = redone_on rec (replayed older)
+-- the standby with these tables that replayed these records, the newest first, or the fault of the first one that is
+-- refused
+abbrev pub replayed : Description → List Rec → Result Standby RedoFault
+replayed tables [] = Ok (start tables)
+replayed tables (rec ∷ older) = redone_on rec (replayed tables older)

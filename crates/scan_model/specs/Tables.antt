@@ -1,55 +1,20 @@
--- The tables that are described: so long as no description is read, t and u of database 16384 in the default
--- tablespace (pg_default, 1663).
-use Rattle.std.specs.Prelude.{ℕ, List, [], ◌∷◌, Option, Some, None, nat_eq, ◌==◌, codes, if◌then◌else◌}
-use Rattle.std.specs.Cmp.Lexicographic.{pointwise}
+-- The described tables by name and by number.
+use Rattle.std.specs.Prelude.{ℕ, List, [], Option, unwrap_or}
 use Rattle.pg_types.specs.declared.names.Locator.{Locator}
-use Rattle.heap_tuple.specs.declared.cell.Kind.TheVariants.{Int4, Text}
-use Rattle.heap_tuple.specs.declared.cell.Column.{Column}
-use Rattle.standby_model.specs.Log.{Described}
-
--- a described table: its name, its file, the names of its columns, and their types
-pub record Table : Type 0 where
-  pub name : List ℕ
-  pub file : Locator
-  pub column_names : List (List ℕ)
-  pub columns : List Column
-
-abbrev pub database : ℕ
-database = 16384
-
--- t: id int4, note text
-abbrev pub table_t : Table
-table_t = record {
-  name = codes "t";
-  file = record { space = 1663; db = 16384; rel = 16385 };
-  column_names = codes "id" ∷ codes "note" ∷ [];
-  columns = record { kind = Int4; missing = None } ∷ record { kind = Text; missing = None } ∷ [];
-}
-
--- u: id int4
-abbrev pub table_u : Table
-table_u = record {
-  name = codes "u";
-  file = record { space = 1663; db = 16384; rel = 16390 };
-  column_names = codes "id" ∷ [];
-  columns = record { kind = Int4; missing = None } ∷ [];
-}
-
--- their files, in order of their numbers
-abbrev pub known : List Locator
-known = table_t.file ∷ table_u.file ∷ []
-
--- what is described to a standby
-abbrev pub described : Described
-described = record { database = database; files = known }
+use Rattle.table_schema.specs.Description.{Description, DescribedTable, first_that, is_named, locator_in, table_at}
 
 -- the number of the table with this name, from 0
-abbrev pub number_of : List ℕ → Option ℕ
-number_of name =
-    if pointwise nat_eq name table_t.name then Some 0
-    else if pointwise nat_eq name table_u.name then Some 1
-    else None
+abbrev pub number_named : Description → List ℕ → Option ℕ
+number_named tables name = first_that (is_named name) 0 tables.tables
 
--- the table with a number: t is 0, every other one u
-abbrev pub table_with : ℕ → Table
-table_with number = if number == 0 then table_t else table_u
+-- in place of a table that is not there. A number that was found by name is never one of that
+abbrev pub nameless : DescribedTable
+nameless = record { name = []; oid = 0; file = 0; column_names = []; columns = [] }
+
+-- the table with this number
+abbrev pub table_with : Description → ℕ → DescribedTable
+table_with tables number = unwrap_or (table_at tables number) nameless
+
+-- and its file
+abbrev pub file_of : Description → ℕ → Locator
+file_of tables number = locator_in tables.database (table_with tables number)

@@ -23,6 +23,7 @@ use Rattle.wal_bodies.specs.Typed.{typed}
 use Rattle.heap_redo.specs.declared.fault.RedoFault.{RedoFault}
 use Rattle.heap_redo.specs.declared.fault.RedoFault.TheVariants as redo
 use Rattle.heap_redo.specs.Redone.{Stands}
+use Rattle.table_schema.specs.Description.{locators}
 use Rattle.standby_core.specs.declared.node.Node.{Node}
 use Rattle.standby_core.specs.declared.types.NodeFault.{NodeFault}
 use Rattle.standby_core.specs.declared.types.NodeFault.TheVariants.{Archive, Memory}
@@ -49,7 +50,7 @@ gives_typed reader start end rec gives places = let a = places.0 in let b = plac
 
 -- where a record in typed form is replayed, the record that was given is
 pub given_replayed : (reader : Standing) (start end : Lsn) (old new : Standby) (rec : Rec) (result : Result Replayed NodeFault)
-    → TypedForm reader start end old.database old.known (Ok rec) → RecReplays rec result old new → GivenReplays reader start end result old new
+    → TypedForm reader start end old.tables (Ok rec) → RecReplays rec result old new → GivenReplays reader start end result old new
 given_replayed reader start end old new rec result form replays =
     record { found = form.found; given = form.given; replays = by form.form result replays }
   where
@@ -57,27 +58,27 @@ given_replayed reader start end old new rec result form replays =
     due = typed_of (described_to old) (Ok (record { start = start.0; end = end.0; record_ = form.found }))
 
     with_due : (r : Result Replayed NodeFault) → due ≡ Ok rec → RecReplays rec r old new → Replays r old new due
-    with_due (Ok (Applied s a c)) e h = (rec, e, h.0, h.1, h.2, h.3)
+    with_due (Ok (Applied s a)) e h = (rec, e, h.0, h.1, h.2)
     with_due (Ok (AtEnd lsn why)) e h = absurd h
     with_due (Ok (Refused lsn what)) e h = (by_blocks rec h.0.0 e h.0.1 h.0.2, h.1)
     with_due (Err Archive) e h = absurd h
     with_due (Err Memory) e (inl same) = inl same
     with_due (Err Memory) e (inr ran) = inr (rec, e, ran)
 
-    by : (Ok rec ≡ Err body.Memory) ⊎ (Ok rec ≡ typed form.found start end old.database old.known) → (r : Result Replayed NodeFault)
+    by : (Ok rec ≡ Err body.Memory) ⊎ (Ok rec ≡ typed form.found start end old.tables.database (locators old.tables)) → (r : Result Replayed NodeFault)
         → RecReplays rec r old new → Replays r old new due
     by (inl e) r h = cc
     by (inr e) r h = with_due r (ap unless_refused (sym e)) h
 
 -- where a record has no typed form, it is refused
 pub given_refused : (reader : Standing) (start end : Lsn) (node : Standby) (at : Lsn) (found : BodyFault)
-    → at ≡ node.at → TypedForm reader start end node.database node.known (Err found)
+    → at ≡ node.at → TypedForm reader start end node.tables (Err found)
     → GivenReplays reader start end (refusing at (body_refusal found)) node node
 given_refused reader start end node at found is form =
     record { found = form.found; given = form.given; replays = by found form.form }
   where
     by :
-        (f : BodyFault) → (let r : Result Rec BodyFault = Err f in (r ≡ Err body.Memory) ⊎ (r ≡ typed form.found start end node.database node.known))
+        (f : BodyFault) → (let r : Result Rec BodyFault = Err f in (r ≡ Err body.Memory) ⊎ (r ≡ typed form.found start end node.tables.database (locators node.tables)))
         → Replays (refusing at (body_refusal f)) node node
         (typed_of (described_to node) (Ok (record { start = start.0; end = end.0; record_ = form.found })))
     by (body.Length lsn) (inl e) = cc
@@ -88,7 +89,7 @@ given_refused reader start end node at found is form =
 
 -- where redo refuses a record, it is refused at its blocks
 pub blocks_refused : (rec : Rec) (old new : Standby) (at : Lsn) (found : RedoFault)
-    → at ≡ old.at → Stands rec old.known old.blocks new.blocks (Err found) → RecReplays rec (refusing at (redo_refusal found)) old new
+    → at ≡ old.at → Stands rec (locators old.tables) old.blocks new.blocks (Err found) → RecReplays rec (refusing at (redo_refusal found)) old new
 blocks_refused rec old new at (redo.PageMissing lsn place) is (inl h) = let e = h.0 in cc
 blocks_refused rec old new at (redo.PageMissing lsn place) is (inr e) = ((redo.PageMissing lsn place, e, refl), is)
 blocks_refused rec old new at (redo.NoTuple lsn place) is (inl h) = let e = h.0 in cc
@@ -98,7 +99,7 @@ blocks_refused rec old new at (redo.PageFull lsn place) is (inr e) = ((redo.Page
 blocks_refused rec old new at (redo.BadPage lsn place) is (inl h) = let e = h.0 in cc
 blocks_refused rec old new at (redo.BadPage lsn place) is (inr e) = ((redo.BadPage lsn place, e, refl), is)
 blocks_refused rec old new at redo.Memory is (inl h) = inr h.1
-blocks_refused rec old new at redo.Memory is (inr e) = absurd (redone_not_memory rec old.known rec.blocks old.blocks new.blocks e)
+blocks_refused rec old new at redo.Memory is (inr e) = absurd (redone_not_memory rec (locators old.tables) rec.blocks old.blocks new.blocks e)
 
 -- what is kept of the log is no part of what a replay does
 refused_moved : (old new : Standby) (kept : Kept) (found : Result Rec LogStop) (what : What)
@@ -108,8 +109,8 @@ refused_moved old new kept found what (by_blocks rec fault due e f) = by_blocks 
 
 replays_moved : (old new : Standby) (kept : Kept) (found : Result Rec LogStop) (result : Result Replayed NodeFault)
     → Replays result (record old { kept = kept }) new found → Replays result old new found
-replays_moved old new kept found (Ok (Applied s a c)) h =
-    (h.0, h.1, record { blocks = h.2.blocks; others = h.2.others }, h.3, h.4, h.5)
+replays_moved old new kept found (Ok (Applied s a)) h =
+    (h.0, h.1, record { blocks = h.2.blocks; others = h.2.others }, h.3, h.4)
 replays_moved old new kept found (Ok (AtEnd lsn why)) h = h
 replays_moved old new kept found (Ok (Refused lsn what)) h = (refused_moved old new kept found what h.0, h.1)
 replays_moved old new kept found (Err Archive) h = h

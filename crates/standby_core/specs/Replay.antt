@@ -11,6 +11,7 @@ use Rattle.wal_bodies.specs.declared.types.RecKind.TheVariants.{BackupEnd}
 use Rattle.heap_redo.specs.declared.fault.RedoFault.{RedoFault}
 use Rattle.heap_redo.specs.declared.fault.RedoFault.TheVariants as redo
 use Rattle.heap_redo.specs.Redone.{RanOut, redone}
+use Rattle.table_schema.specs.Description.{locators}
 use Rattle.xact_redo.specs.State.{state_after}
 use Rattle.standby_model.specs.Log as log
 use Rattle.standby_model.specs.Log.{Stop, typed_of}
@@ -34,7 +35,7 @@ awaited_after kind (Some start) = if ends_backup start kind then None else Some 
 
 -- the record is applied to the blocks and to the state of transactions, and the node stands at its end
 pub record IsApplied (rec : Rec) (old new : Standby) : Type 0 where
-  pub blocks : redone rec old.known rec.blocks old.blocks ≡ (new.blocks, Ok tt)
+  pub blocks : redone rec (locators old.tables) rec.blocks old.blocks ≡ (new.blocks, Ok tt)
   pub others :
       new ≡ record old {
         at = rec.end;
@@ -67,18 +68,18 @@ pub data IsRefusedAs (old new : Standby) (found : Result Rec Stop) (what : Refus
       (why : log.Refusal) → found ≡ Err (log.Refused why) → refusal_of why ≡ what → new.blocks ≡ old.blocks
       → IsRefusedAs old new found what
   by_blocks :
-      (rec : Rec) (fault : RedoFault) → found ≡ Ok rec → redone rec old.known rec.blocks old.blocks ≡ (new.blocks, Err fault)
+      (rec : Rec) (fault : RedoFault) → found ≡ Ok rec → redone rec (locators old.tables) rec.blocks old.blocks ≡ (new.blocks, Err fault)
       → redo_refusal fault ≡ Some what → IsRefusedAs old new found what
 
 -- memory ran out before the blocks were changed, or after some of the record's blocks
 abbrev pub MayBeRedone : Standby → Standby → Result Rec Stop → Type 0
 MayBeRedone old new found =
-    (new.blocks ≡ old.blocks) ⊎ ((rec : Rec) × (found ≡ Ok rec) × RanOut rec old.known old.blocks new.blocks)
+    (new.blocks ≡ old.blocks) ⊎ ((rec : Rec) × (found ≡ Ok rec) × RanOut rec (locators old.tables) old.blocks new.blocks)
 
 -- the answer of one replay, by what stands at the node's position
 abbrev pub Replays : Result Replayed NodeFault → Standby → Standby → Result Rec Stop → Type 0
-Replays (Ok (Applied start at cancelled)) old new found =
-    (rec : Rec) × (found ≡ Ok rec) × IsApplied rec old new × (rec.start ≡ start) × (rec.end ≡ at) × (cancelled ≡ 0)
+Replays (Ok (Applied start at)) old new found =
+    (rec : Rec) × (found ≡ Ok rec) × IsApplied rec old new × (rec.start ≡ start) × (rec.end ≡ at)
 Replays (Ok (AtEnd lsn why)) old new found = (found ≡ Err (log.Ended why)) × (lsn ≡ old.at) × (new.blocks ≡ old.blocks)
 Replays (Ok (Refused lsn what)) old new found = IsRefusedAs old new found what × (lsn ≡ old.at)
 Replays (Err Archive) old new found = new.blocks ≡ old.blocks
@@ -90,14 +91,14 @@ ReplaysSome result old new = (found : Result Entry NoRecord) × Replays result o
 
 -- where no record was applied, all but the blocks, and what is kept of the log, is as before
 abbrev pub StaysUnlessApplied : Result Replayed NodeFault → Standby → Standby → Type 0
-StaysUnlessApplied (Ok (Applied start at cancelled)) old new = Unit {0}
+StaysUnlessApplied (Ok (Applied start at)) old new = Unit {0}
 StaysUnlessApplied (Ok (AtEnd lsn why)) old new = new ≡ record old { blocks = new.blocks; kept = new.kept }
 StaysUnlessApplied (Ok (Refused lsn what)) old new = new ≡ record old { blocks = new.blocks; kept = new.kept }
 StaysUnlessApplied (Err fault) old new = new ≡ record old { blocks = new.blocks; kept = new.kept }
 
 -- where a record was applied the node stands behind the position where it stood, and no position grows without bound
 abbrev pub MovesOn : Result Replayed NodeFault → ℕ → ℕ → Type 0
-MovesOn (Ok (Applied start at cancelled)) old new = (old < new) × (new ≤ 2 ^ 63 + 2 ^ 31)
+MovesOn (Ok (Applied start at)) old new = (old < new) × (new ≤ 2 ^ 63 + 2 ^ 31)
 MovesOn (Ok (AtEnd lsn why)) old new = Unit {0}
 MovesOn (Ok (Refused lsn what)) old new = Unit {0}
 MovesOn (Err fault) old new = Unit {0}

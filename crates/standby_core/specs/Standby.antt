@@ -1,20 +1,19 @@
 -- A node as contracts see it.
-use Rattle.std.specs.Prelude.{ℕ, List, [], Option, Some}
-use Rattle.pg_types.specs.declared.names.Locator.{Locator}
+use Rattle.std.specs.Prelude.{ℕ, [], Option, Some}
 use Rattle.pg_types.specs.declared.names.Lsn.{Lsn}
 use Rattle.wal_record.specs.declared.types.PrevRule.{PrevRule}
 use Rattle.wal_record.specs.declared.types.PrevRule.TheVariants.{Below}
 use Rattle.wal_reader.specs.Kept.{Kept}
 use Rattle.wal_reader.specs.Told.{Told}
 use Rattle.heap_redo.specs.Redone.{View}
+use Rattle.table_schema.specs.Description.{Description, locators}
 use Rattle.xact_redo.specs.State.{TransactionState, before_records}
 use Rattle.standby_model.specs.Log.{Described}
 use Rattle.standby_core.specs.declared.types.Origin.{Origin}
 
 pub record Standby : Type 0 where
-  -- the described database, and the files of the described tables
-  pub database : ℕ
-  pub known : List Locator
+  -- the described database and its tables
+  pub tables : Description
   -- the log's system identifier, and the size of its segments
   pub system : ℕ
   pub segsize : ℕ
@@ -32,10 +31,9 @@ pub record Standby : Type 0 where
 
 -- a node as its life begins at an origin: the first record's link is below its own position, and the end of the
 -- backup that began at the redo position is awaited (backup_label, xlogrecovery.c)
-unfoldable pub at_origin : ℕ → List Locator → Origin → View → Standby
-at_origin database known origin blocks = record {
-  database = database;
-  known = known;
+unfoldable pub at_origin : Description → Origin → View → Standby
+at_origin tables origin blocks = record {
+  tables = tables;
   system = origin.system;
   segsize = origin.segsize;
   at = origin.redo;
@@ -51,6 +49,10 @@ at_origin database known origin blocks = record {
 abbrev pub told_to : Standby → (ℕ → Option ℕ) → Told
 told_to node byte = record { byte = byte; owner = λ at. 1; system = node.system; segsize = node.segsize }
 
+-- what a description says to the log's reader: the database, and the files of its tables
+abbrev pub described_in : Description → Described
+described_in tables = record { database = tables.database; files = locators tables }
+
 -- what is described to the node
 abbrev pub described_to : Standby → Described
-described_to node = record { database = node.database; files = node.known }
+described_to node = described_in node.tables

@@ -1,6 +1,5 @@
 -- What the steps of a replay say.
-use Rattle.std.specs.Prelude.{◌≡◌, ◌⊎◌, ℕ, List, Option, Some, None, Result, Ok, Err}
-use Rattle.pg_types.specs.declared.names.Locator.{Locator}
+use Rattle.std.specs.Prelude.{◌≡◌, ◌⊎◌, Option, Some, None, Result, Ok, Err}
 use Rattle.pg_types.specs.declared.names.Lsn.{Lsn}
 use Rattle.wal_record.specs.Decoded.{decoded}
 use Rattle.wal_record.specs.Record.{Record}
@@ -13,6 +12,7 @@ use Rattle.wal_bodies.specs.declared.types.BodyFault.TheVariants as body
 use Rattle.wal_bodies.specs.Typed.{typed}
 use Rattle.heap_redo.specs.declared.fault.RedoFault.{RedoFault}
 use Rattle.heap_redo.specs.Redone.{RanOut, redone}
+use Rattle.table_schema.specs.Description.{Description, locators}
 use Rattle.standby_core.specs.declared.types.Refusal.{Refusal}
 use Rattle.standby_core.specs.declared.types.Refusal.TheVariants.{Compressed, TooLong, Length, Unsupported}
 use Rattle.standby_core.specs.declared.types.Replayed.{Replayed}
@@ -50,10 +50,10 @@ abbrev pub IsGiven : Standing → Lsn → Record → Type 0
 IsGiven reader start found = decoded reader.source.text start.0 reader.prev ≡ Ok found
 
 -- the typed form of the record that was given
-pub record TypedForm (reader : Standing) (start end : Lsn) (database : ℕ) (known : List Locator) (result : Result Rec BodyFault) : Type 0 where
+pub record TypedForm (reader : Standing) (start end : Lsn) (tables : Description) (result : Result Rec BodyFault) : Type 0 where
   pub found : Record
   pub given : IsGiven reader start found
-  pub form : (result ≡ Err body.Memory) ⊎ (result ≡ typed found start end database known)
+  pub form : (result ≡ Err body.Memory) ⊎ (result ≡ typed found start end tables.database (locators tables))
 
 -- the record that was given is replayed
 pub record GivenReplays (reader : Standing) (start end : Lsn) (result : Result Replayed NodeFault) (old new : Standby) : Type 0 where
@@ -64,18 +64,17 @@ pub record GivenReplays (reader : Standing) (start end : Lsn) (result : Result R
 
 -- a record in typed form is replayed
 abbrev pub RecReplays : Rec → Result Replayed NodeFault → Standby → Standby → Type 0
-RecReplays rec (Ok (Applied start at cancelled)) old new =
-    IsApplied rec old new × (rec.start ≡ start) × (rec.end ≡ at) × (cancelled ≡ 0)
+RecReplays rec (Ok (Applied start at)) old new = IsApplied rec old new × (rec.start ≡ start) × (rec.end ≡ at)
 RecReplays rec (Ok (AtEnd lsn why)) old new = ⊥
 RecReplays rec (Ok (Refused lsn what)) old new =
-    ((fault : RedoFault) × (redone rec old.known rec.blocks old.blocks ≡ (new.blocks, Err fault)) × (redo_refusal fault ≡ Some what))
+    ((fault : RedoFault) × (redone rec (locators old.tables) rec.blocks old.blocks ≡ (new.blocks, Err fault)) × (redo_refusal fault ≡ Some what))
     × (lsn ≡ old.at)
 RecReplays rec (Err Archive) old new = ⊥
-RecReplays rec (Err Memory) old new = (new.blocks ≡ old.blocks) ⊎ RanOut rec old.known old.blocks new.blocks
+RecReplays rec (Err Memory) old new = (new.blocks ≡ old.blocks) ⊎ RanOut rec (locators old.tables) old.blocks new.blocks
 
 -- where a record was applied the node stands at its end
 abbrev pub EndsAt : Result Replayed NodeFault → Lsn → Standby → Type 0
-EndsAt (Ok (Applied start at cancelled)) end new = new.at ≡ end
+EndsAt (Ok (Applied start at)) end new = new.at ≡ end
 EndsAt (Ok (AtEnd lsn why)) end new = Unit {0}
 EndsAt (Ok (Refused lsn what)) end new = Unit {0}
 EndsAt (Err fault) end new = Unit {0}

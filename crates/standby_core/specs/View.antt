@@ -1,5 +1,5 @@
 -- The node's own parts as contracts see them.
-use Rattle.std.specs.Prelude.{◌≡◌, ℕ, false, length, Option, IfSome, is_some, Result}
+use Rattle.std.specs.Prelude.{◌≡◌, ℕ, length, Option, IfSome, is_some, Result}
 use Rattle.page_store.specs.Content.{content, table_count}
 use Rattle.heap_redo.specs.Redone.{view_of}
 use Rattle.wal_reader.specs.Kept.{AreTold}
@@ -15,8 +15,7 @@ use Rattle.standby_core.specs.Replay.{Replays}
 
 unfoldable pub standby : Node → Standby
 standby node = record {
-  database = node.database;
-  known = node.known.items;
+  tables = node.tables;
   system = node.reader.source.system;
   segsize = node.segsize;
   at = node.reader.at;
@@ -35,7 +34,7 @@ ReplaysTold told result old new =
     IfSome told (λ byte. AreTold byte old.kept
     → AreTold byte new.kept × Replays result old new (record_at (told_to old byte) (described_to old) old.at.0 old.prev))
 
--- where a node stands: the first timeline, no scans, not promoted
+-- where a node stands, on the first timeline
 unfoldable pub status_of : Standby → NodeStatus
 status_of node = record {
   tli = record { 0 = 1 };
@@ -43,12 +42,12 @@ status_of node = record {
   min = node.min;
   awaited = is_some node.awaited;
   state = node.transactions.known.mode;
-  scans = 0;
-  promoted = false;
 }
 
--- the blocks and the state of transactions in a node's parts, of as many tables as are described
+-- the description, the blocks and the state of transactions in a node's parts, and a pool of as many tables as are
+-- described
 pub record HasParts (parts : NodeParts) (node : Standby) : Type 0 where
-  pub tables : table_count parts.pool ≡ length node.known
+  pub description : parts.tables ≡ node.tables
+  pub tables : table_count parts.pool ≡ length node.tables.tables
   pub blocks : view_of (content parts.pool) ≡ node.blocks
   pub transactions : transactions parts.state ≡ node.transactions

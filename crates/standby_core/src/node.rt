@@ -1,4 +1,4 @@
-ghost use Rattle.std.specs.Prelude.{◌≡◌, ◌<◌, ◌^◌, vec_len};
+ghost use Rattle.std.specs.Prelude.{◌≡◌, length};
 ghost use Rattle.pg_types.specs.Names.{IsSegmentSize};
 ghost use Rattle.pg_types.specs.SegmentSizes.{IsSegmentSize-prop};
 ghost use Rattle.page_store.specs.Content.{table_count};
@@ -9,8 +9,9 @@ use crate::types::{NodeFault, NodeParts, NodeStatus, Origin, Refusal, Replayed};
 use heap_redo::RedoFault;
 use outside::Archive;
 use page_store::Pool;
-use pg_types::{Locator, Lsn, NoMemory, Tli};
+use pg_types::{Lsn, NoMemory, Tli};
 use std::alloc::Global;
+use table_schema::Tables;
 use wal_archive::ArchiveLog;
 use wal_bodies::{BodyFault, Rec, RecKind, body};
 use wal_reader::{Next, ReadFault, Reader};
@@ -22,8 +23,7 @@ use xact_redo::{XactState, reserve};
 #[derive(Drop)]
 pub struct Node {
     alloc: Global,
-    database: u32,
-    known: Vec<Locator>,
+    tables: Tables,
     segsize: u32,
     reader: Reader,
     /// The reader's position.
@@ -32,8 +32,7 @@ pub struct Node {
     state: XactState,
     min: Lsn,
     awaited: Option<Lsn>,
-    ghost tables: { table_count pool ≡ vec_len known },
-    ghost few: { vec_len known < 2 ^ 16 },
+    ghost described: { table_count pool ≡ length tables.tables },
     ghost allowed: { IsSegmentSize segsize } by { IsSegmentSize-prop segsize },
     ghost same_size: { reader.source.segsize ≡ segsize },
     ghost same_at: { reader.at.0 ≡ at.0 },
@@ -55,22 +54,19 @@ impl Node {
     ghost use Rattle.standby_core.specs.Steps.{EndsAt, GivenReplays, Gives, RecReplays, TypedForm};
     ghost use Rattle.standby_core.specs.View.{HasParts, ReplaysTold, standby, status_of};
 
-    /// A node at an origin, over a pool that was made for as many tables as are `known`. It awaits the end
+    /// A node at an origin, over a pool that was made for as many tables as are described. It awaits the end
     /// of the backup that began at the redo position.
     #[tactic(auto, unfolding(crate::specs::View::standby, crate::specs::Standby::at_origin))]
     pub fn at_origin(
         alloc: Global,
-        database: u32,
-        known: &[Locator],
+        tables: Tables,
         origin: &Origin,
         pool: Pool,
     ) -> Result<Node, NoMemory>
-        requires tables { table_count pool ≡ length known.now }
-        requires few { length known.now < 2 ^ 16 }
+        requires tables { table_count pool ≡ length tables.tables }
         requires segment_size { IsSegmentSize origin.now.segsize }
-        ensures { IfOk result (λ node. standby node ≡ at_origin database known.now origin.now (view_of (content pool))) }
+        ensures { IfOk result (λ node. standby node ≡ at_origin tables origin.now (view_of (content pool))) }
     {
-        let known = Vec::from_slice(alloc, known)?;
         let reader = Reader::start(
             alloc,
             origin.system,
@@ -80,8 +76,7 @@ impl Node {
         )?;
         Ok(Node {
             alloc,
-            database,
-            known,
+            tables,
             segsize: origin.segsize,
             reader,
             at: origin.redo,
@@ -103,9 +98,15 @@ impl Node {
             min: self.min,
             awaited: self.awaited.is_some(),
             state: self.state.known.state(),
-            scans: 0,
-            promoted: false,
         }
+    }
+
+    /// The description of the tables.
+    #[tactic(auto, unfolding(crate::specs::View::standby))]
+    pub fn tables(&self) -> &Tables
+        ensures { result.now ≡ (standby self.now).tables }
+    {
+        &self.tables
     }
 
     /// Takes the node apart. It takes no memory.
@@ -113,8 +114,17 @@ impl Node {
     pub fn parts(self) -> NodeParts
         ensures { HasParts result (standby self) }
     {
-        let Node { pool, state, .. } = self;
-        NodeParts { pool, state }
+        let Node {
+            tables,
+            pool,
+            state,
+            ..
+        } = self;
+        NodeParts {
+            tables,
+            pool,
+            state,
+        }
     }
 
     /// Replays the record at the node's position: its blocks are changed, then the state of transactions,
@@ -132,7 +142,7 @@ impl Node {
         ensures answer { ReplaysTold (archived_bytes (A.files archive.old) (standby self.old).segsize) result (standby self.old) (standby self.new) }
         ensures stays { StaysUnlessApplied result (standby self.old) (standby self.new) }
         ensures onward { MovesOn result (standby self.old).at.0 (standby self.new).at.0 }
-        ensures known { (standby self.new).known ≡ (standby self.old).known }
+        ensures tables { (standby self.new).tables ≡ (standby self.old).tables }
         ensures segsize { (standby self.new).segsize ≡ (standby self.old).segsize }
         ensures told { archived_bytes (A.files archive.new) (standby self.old).segsize ≡ archived_bytes (A.files archive.old) (standby self.old).segsize }
         ensures some { ReplaysSome result (standby self.old) (standby self.new) }
@@ -171,7 +181,7 @@ impl Node {
         ensures replays { GivenReplays self.old.reader start end result (standby self.old) (standby self.new) }
         ensures stays { StaysUnlessApplied result (standby self.old) (standby self.new) }
         ensures ends { EndsAt result end (standby self.new) }
-        ensures known { (standby self.new).known ≡ (standby self.old).known }
+        ensures tables { (standby self.new).tables ≡ (standby self.old).tables }
         ensures segsize { (standby self.new).segsize ≡ (standby self.old).segsize }
         ensures kept { (standby self.new).kept ≡ (standby self.old).kept }
         ensures no_archive { result ≡ Err NodeFault.Archive → ⊥ }
@@ -185,7 +195,7 @@ impl Node {
     /// The typed form of the record that the reader gave last.
     fn typed(&self, start: Lsn, end: Lsn) -> Result<Rec, BodyFault>
         requires { Gives self.now.reader start end }
-        ensures form { TypedForm self.now.reader start end self.now.database self.now.known.items result }
+        ensures form { TypedForm self.now.reader start end self.now.tables result }
         ensures xids { IfOk result AreXidsShort }
         ensures places { IfOk result (λ rec. (rec.start ≡ start) × (rec.end ≡ end)) }
     {
@@ -194,8 +204,8 @@ impl Node {
             &self.reader.record(),
             start,
             end,
-            self.database,
-            self.known.as_slice(),
+            self.tables.database(),
+            self.tables.locators(),
         )
     }
 
@@ -207,12 +217,12 @@ impl Node {
         ensures replays { RecReplays rec.now result (standby self.old) (standby self.new) }
         ensures stays { StaysUnlessApplied result (standby self.old) (standby self.new) }
         ensures ends { EndsAt result rec.now.end (standby self.new) }
-        ensures known { (standby self.new).known ≡ (standby self.old).known }
+        ensures tables { (standby self.new).tables ≡ (standby self.old).tables }
         ensures segsize { (standby self.new).segsize ≡ (standby self.old).segsize }
         ensures kept { (standby self.new).kept ≡ (standby self.old).kept }
     {
         reserve(rec, &mut self.state)?;
-        match heap_redo::redo(rec, self.known.as_slice(), &mut self.pool) {
+        match heap_redo::redo(rec, &self.tables, &mut self.pool) {
             Ok(()) => {}
             Err(fault) => return refuse_blocks(self.at, fault),
         }
@@ -221,7 +231,6 @@ impl Node {
         Ok(Replayed::Applied {
             start: rec.start,
             at: rec.end,
-            cancelled: 0,
         })
     }
 

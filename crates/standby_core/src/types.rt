@@ -1,6 +1,7 @@
 use known_assigned::State;
 use page_store::Pool;
-use pg_types::{Lsn, NoMemory, Place, Tli, Xid};
+use pg_types::{Lsn, NoMemory, Place, Tli};
+use table_schema::Tables;
 use thiserror::Error;
 use wal_bodies::What;
 use wal_reader::EndWhy;
@@ -15,16 +16,13 @@ pub struct Origin {
     pub segsize: u32,
     /// The redo position of the base backup's checkpoint.
     pub redo: Lsn,
-    /// The next transaction id there.
-    pub next: Xid,
 }
 
 /// What came of replaying one record.
 #[derive(Clone, Copy, Debug, PartialEq, Eq)]
 pub enum Replayed {
-    /// The record that starts there was applied, and the node stands at its end. So many scans were
-    /// cancelled.
-    Applied { start: Lsn, at: Lsn, cancelled: u32 },
+    /// The record that starts there was applied, and the node stands at its end.
+    Applied { start: Lsn, at: Lsn },
     /// No record stands at the node's position, by the first rule that fails.
     AtEnd { lsn: Lsn, why: EndWhy },
     /// The record at the node's position is refused, and the node stays there.
@@ -73,15 +71,12 @@ pub struct NodeStatus {
     pub awaited: bool,
     /// How far the running transactions are known.
     pub state: State,
-    /// How many scans are open.
-    pub scans: u32,
-    /// Whether this node was promoted.
-    pub promoted: bool,
 }
 
 /// What a node is taken apart into.
 #[derive(Drop)]
 pub struct NodeParts {
+    pub tables: Tables,
     pub pool: Pool,
     pub state: XactState,
 }

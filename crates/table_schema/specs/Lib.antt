@@ -1,3 +1,4 @@
 pub mod Description
+pub mod Laws
 pub mod Reading
 pub mod RowText

@@ -5,6 +5,7 @@
 mod columns;
 mod description;
 mod fault;
+mod laws;
 mod look_up;
 mod members;
 mod name;
@@ -13,5 +14,6 @@ mod tables;
 
 pub use description::read_schema;
 pub use fault::{Key, SchemaFault};
+pub use laws::{one_description, refusals_are_named, tables_are_apart};
 pub use name::Name;
 pub use tables::Tables;

@@ -1,8 +1,8 @@
 -- The transaction ids of a record's main data are of 32 bits.
-use Rattle.std.proofs.Common.{◌≡◌, ◌⊎◌, inl, inr, ℕ, zero, suc, ◌+◌, ◌*◌, ◌^◌, ◌<◌, ◌==◌, Bool, false, cond, not, nat_le, List, [], ◌∷◌, All, drop, slice_index, Option, Some, None, Result, Ok, Err, IfOk, refl, sym, subst, arith}
-use Rattle.std.specs.List.{range_with_len, list_any}
+use Rattle.std.proofs.Common.{◌≡◌, ℕ, zero, suc, ◌+◌, ◌^◌, ◌<◌, ◌==◌, Bool, false, cond, not, nat_le, List, [], ◌∷◌, All, drop, slice_index, Option, Some, None, Result, Ok, Err, IfOk, refl, sym, subst, arith}
+use Rattle.std.specs.List.{list_any}
 use Rattle.std.proofs.lemmas.Bool.{cond_both, leb-false, or_parts}
-use Rattle.std.proofs.lemmas.List.Elements.{All-cons, All-drop, All-nil, All-map}
+use Rattle.std.proofs.lemmas.List.Elements.{All-cons, All-drop, All-nil}
 use Rattle.pg_types.specs.Numbers.{number_at}
 use Rattle.pg_types.specs.declared.names.Lsn.{Lsn}
 use Rattle.pg_types.specs.declared.names.Tli.{Tli}
@@ -10,8 +10,8 @@ use Rattle.pg_types.specs.declared.names.Xid.{Xid}
 use Rattle.wal_record.specs.declared.types.RecordHead.{RecordHead}
 use Rattle.pg_types.specs.declared.names.Locator.{Locator}
 use Rattle.wal_record.specs.Record.{Block, Record}
-use Rattle.wal_bodies.specs.declared.refusal.Refusal.{Refusal}
-use Rattle.wal_bodies.specs.declared.refusal.Refusal.TheVariants.{Unsupported, Memory as NoRoom}
+use Rattle.wal_bodies.specs.declared.types.BodyFault.{BodyFault}
+use Rattle.wal_bodies.specs.declared.types.BodyFault.TheVariants.{Unsupported}
 use Rattle.wal_bodies.specs.declared.types.What.TheVariants.{Epoch}
 use Rattle.wal_bodies.specs.declared.types.RecKind.{RecKind}
 use Rattle.wal_bodies.specs.declared.types.RecKind.TheVariants.{Checkpoint, Ended, Running}
@@ -44,8 +44,9 @@ four_bytes bytes at all =
 -- ids that stand one after another
 pub xids_short : (bytes : List ℕ) (at n : ℕ) → AreBytes bytes → All IsShort (xids_at bytes at n)
 unfolding xids_at
-xids_short bytes at n all =
-    All-map IsShort (λ i. xid_at bytes (at + 4 * i)) (range_with_len 0 n) (λ k d h. four_bytes bytes (at + 4 * _) all)
+xids_short bytes at zero all = All-nil IsShort
+xids_short bytes at (suc n) all =
+    All-cons IsShort (xid_at bytes at) (xids_at bytes (at + 4) n) (four_bytes bytes at all) (xids_short bytes (at + 4) n all)
 
 -- the ids of a running record and the next one of a checkpoint; those that ended are looked at apart
 abbrev told_xids : RecKind → List Xid
@@ -53,20 +54,20 @@ told_xids (Running tops subs overflow next oldest latest xids) = next ∷ oldest
 told_xids (Checkpoint redo timeline previous writes next multi member oldest active) = next ∷ []
 told_xids _ = []
 
-record Fits (r : Result RecKind Refusal) : Type 0 where
+record Fits (r : Result RecKind BodyFault) : Type 0 where
   fits : IfOk r (λ kind. All IsShort (told_xids kind))
 
-refused : (refusal : Refusal) → Fits (Err refusal)
+refused : (refusal : BodyFault) → Fits (Err refusal)
 refused refusal = record { fits = tt }
 
 none : (kind : RecKind) → told_xids kind ≡ [] → Fits (Ok kind)
 none kind e = record { fits = subst (All IsShort) (sym e) (All-nil IsShort) }
 
-bound : {A : Type 0} (r : Result A Refusal) (f : A → Result RecKind Refusal) → ((x : A) → Fits (f x)) → Fits (r >>= f)
+bound : {A : Type 0} (r : Result A BodyFault) (f : A → Result RecKind BodyFault) → ((x : A) → Fits (f x)) → Fits (r >>= f)
 bound (Err refusal) f h = refused refusal
 bound (Ok x) f h = h x
 
-either : (b : Bool) (x y : Result RecKind Refusal) → Fits x → Fits y → Fits (cond b x y)
+either : (b : Bool) (x y : Result RecKind BodyFault) → Fits x → Fits y → Fits (cond b x y)
 either b x y f g = cond_both b x y Fits (λ _. f) (λ _. g)
 
 next_fits : (next : ℕ) (redo : Lsn) (timeline previous : Tli) (writes : Bool) (multi member oldest : ℕ) (active : Xid)
@@ -230,15 +231,9 @@ all_short head _ e told = All-nil IsShort
 kind_told : (kind : RecKind) → Fits (Ok kind) → All IsShort (told_xids kind)
 kind_told kind h = h.fits
 
-answer_fits : (rec : Record) (database : ℕ) (known : List Locator) (kind : RecKind) → AreBytes rec.main
-    → (Ok kind ≡ Err NoRoom) ⊎ (Ok kind ≡ kind_of rec database known) → Fits (Ok kind)
-answer_fits rec database known kind all (inl e) = absurd (cc)
-answer_fits rec database known kind all (inr e) = subst Fits (sym e) (kind_fits rec database known all)
-
 -- a record whose main data are bytes bears short ids, where it is not refused for one
 pub record_short : (rec : Record) (database : ℕ) (known : List Locator) (kind : RecKind) → ((i : ℕ) → slice_index rec.main i < 256)
-    → (Ok kind ≡ Err NoRoom) ⊎ (Ok kind ≡ kind_of rec database known) → names_last rec.head kind ≡ false
-    → All IsShort (record_xids rec.head kind)
+    → Ok kind ≡ kind_of rec database known → names_last rec.head kind ≡ false → All IsShort (record_xids rec.head kind)
 record_short rec database known kind each is e =
     All-cons IsShort rec.head.xid (kind_xids kind) (own_short rec.head kind e)
-    (all_short rec.head kind e (kind_told kind (answer_fits rec database known kind (all_bytes rec.main each) is)))
+    (all_short rec.head kind e (kind_told kind (subst Fits (sym is) (kind_fits rec database known (all_bytes rec.main each)))))

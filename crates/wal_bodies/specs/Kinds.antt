@@ -5,8 +5,8 @@ use Rattle.pg_types.specs.Numbers.{number_at}
 use Rattle.pg_types.specs.declared.names.Locator.{Locator}
 use Rattle.pg_types.specs.declared.names.Xid.{Xid}
 use Rattle.wal_record.specs.Record.{Record}
-use Rattle.wal_bodies.specs.declared.refusal.Refusal.{Refusal}
-use Rattle.wal_bodies.specs.declared.refusal.Refusal.TheVariants.{Length, Unsupported}
+use Rattle.wal_bodies.specs.declared.types.BodyFault.{BodyFault}
+use Rattle.wal_bodies.specs.declared.types.BodyFault.TheVariants.{Length, Unsupported}
 use Rattle.wal_bodies.specs.declared.types.What.TheVariants.{Prepared, Minimal, PageWrites, Database, Epoch, NotYet}
 use Rattle.wal_bodies.specs.declared.types.RecKind.{RecKind}
 use Rattle.wal_bodies.specs.declared.types.RecKind.TheVariants.{Checkpoint, BackupEnd, Parameters, FullPageWrites, Images, Overwrite, Ended, Running, Other}
@@ -14,7 +14,7 @@ use Rattle.wal_bodies.specs.Fields.{◌>>=◌, has, lsn_at, tli_at, xid_at, xids
 use Rattle.wal_bodies.specs.HeapKinds.{heap_kind, heap2_kind}
 
 -- A checkpoint (CheckPoint, pg_control.h). Timelines other than the first are not read yet.
-unfoldable pub checkpoint : List ℕ → Result RecKind Refusal
+unfoldable pub checkpoint : List ℕ → Result RecKind BodyFault
 checkpoint main =
     if nat_lt (length main) 88 then Err Length
     else if not ((number_at 4 main 8 == 1) && (number_at 4 main 12 == 1)) then Err (Unsupported NotYet)
@@ -26,11 +26,11 @@ checkpoint main =
     (number_at 4 main 36) (number_at 4 main 40) (number_at 4 main 52) (xid_at main 80))
 
 -- the end of a base backup, by the position where it began
-unfoldable pub backup_end : List ℕ → Result RecKind Refusal
+unfoldable pub backup_end : List ℕ → Result RecKind BodyFault
 backup_end main = if nat_lt (length main) 8 then Err Length else Ok (BackupEnd (lsn_at main 0))
 
 -- the server's parameters (xl_parameter_change, xlog_internal.h)
-unfoldable pub parameters : List ℕ → Result RecKind Refusal
+unfoldable pub parameters : List ℕ → Result RecKind BodyFault
 parameters main =
     if nat_lt (length main) 24 then Err Length
     else if number_at 4 main 20 == 0 then Err (Unsupported Minimal)
@@ -40,20 +40,20 @@ parameters main =
     (cast_signed w32 (number_at 4 main 16)) (cast_signed w32 (number_at 4 main 20)))
 
 -- full page writes, turned on or off
-unfoldable pub page_writes : List ℕ → Result RecKind Refusal
+unfoldable pub page_writes : List ℕ → Result RecKind BodyFault
 page_writes main =
     if nat_lt (length main) 1 then Err Length
     else if slice_index main 0 == 0 then Err (Unsupported PageWrites)
     else Ok (FullPageWrites (not (slice_index main 0 == 0)))
 
 -- a record that was begun and given up (xl_overwrite_contrecord)
-unfoldable pub overwrite : List ℕ → Result RecKind Refusal
+unfoldable pub overwrite : List ℕ → Result RecKind BodyFault
 overwrite main =
     if nat_lt (length main) 16 then Err Length
     else Ok (Overwrite (lsn_at main 0) (cast_signed w64 (number_at 8 main 8)))
 
 -- manager 0, the log's own records (pg_control.h)
-unfoldable pub xlog_kind : ℕ → List ℕ → Result RecKind Refusal
+unfoldable pub xlog_kind : ℕ → List ℕ → Result RecKind BodyFault
 xlog_kind info main =
     if (info == 0x00) || (info == 0x10) then checkpoint main
     else if info == 0x50 then backup_end main
@@ -65,44 +65,44 @@ xlog_kind info main =
     else Ok Other
 
 -- xinfo, which is there with info bit 0x80 (XLOG_XACT_HAS_INFO)
-unfoldable pub xinfo_from : ℕ → List ℕ → Result (ℕ × List ℕ) Refusal
+unfoldable pub xinfo_from : ℕ → List ℕ → Result (ℕ × List ℕ) BodyFault
 xinfo_from info text = if has info 0x80 then number_from 4 text else Ok (0, text)
 
 -- the database and its tablespace, which are there with xinfo bit 0 (XACT_XINFO_HAS_DBINFO)
-unfoldable pub behind_database : ℕ → List ℕ → Result (List ℕ) Refusal
+unfoldable pub behind_database : ℕ → List ℕ → Result (List ℕ) BodyFault
 behind_database xinfo text = if has xinfo 1 then behind 8 text else Ok text
 
 -- a count of four bytes, which is not below 0, and what stands behind it
-unfoldable pub count_from : List ℕ → Result (ℕ × List ℕ) Refusal
+unfoldable pub count_from : List ℕ → Result (ℕ × List ℕ) BodyFault
 count_from text = do
   count ← number_from 4 text
   if nat_le 2147483648 count.0 then Err Length else Ok count
 
 -- a count, and as many transaction ids
-unfoldable pub counted_xids : List ℕ → Result (List Xid) Refusal
+unfoldable pub counted_xids : List ℕ → Result (List Xid) BodyFault
 counted_xids text = do
   count ← count_from text
   if nat_lt (length count.1) (4 * count.0) then Err Length else Ok (xids_at count.1 0 count.0)
 
 -- the subtransactions, which are there with xinfo bit 1 (XACT_XINFO_HAS_SUBXACTS)
-unfoldable pub subs_from : ℕ → List ℕ → Result (List Xid) Refusal
+unfoldable pub subs_from : ℕ → List ℕ → Result (List Xid) BodyFault
 subs_from xinfo text = if has xinfo 2 then counted_xids text else Ok []
 
 -- what stands behind xinfo; files that are dropped, xinfo bit 2 (XACT_XINFO_HAS_RELFILELOCATORS), are not read yet
-unfoldable pub parts_by : ℕ → List ℕ → Result (List Xid) Refusal
+unfoldable pub parts_by : ℕ → List ℕ → Result (List Xid) BodyFault
 parts_by xinfo text =
     if has xinfo 4 then Err (Unsupported NotYet) else do
       rest ← behind_database xinfo text
       subs_from xinfo rest
 
 -- a time of eight bytes (TimestampTz), and what stands behind it
-unfoldable pub time_from : List ℕ → Result (ℤ × List ℕ) Refusal
+unfoldable pub time_from : List ℕ → Result (ℤ × List ℕ) BodyFault
 time_from text = do
   time ← number_from 8 text
   Ok (cast_signed w64 time.0, time.1)
 
 -- the end of a transaction (xl_xact_commit, xl_xact_abort, xact.h)
-unfoldable pub ended : ℕ → List ℕ → Result RecKind Refusal
+unfoldable pub ended : ℕ → List ℕ → Result RecKind BodyFault
 ended info main = do
   time ← time_from main
   xinfo ← xinfo_from info time.1
@@ -110,7 +110,7 @@ ended info main = do
   Ok (Ended time.0 xinfo.0 xids)
 
 -- manager 1, transactions (xact.h, XLOG_XACT_OPMASK): two-phase commit is not supported
-unfoldable pub xact_kind : ℕ → List ℕ → Result RecKind Refusal
+unfoldable pub xact_kind : ℕ → List ℕ → Result RecKind BodyFault
 xact_kind info main =
     if (bit_and info 0x70 == 0x00) || (bit_and info 0x70 == 0x20) then ended info main
     else if bit_and info 0x70 == 0x50 then Err (Unsupported NotYet)
@@ -121,7 +121,7 @@ xact_kind info main =
 -- The transactions that are running (xl_running_xacts, standbydefs.h). Their number is that of the
 -- top-level ones and the subtransactions. Subtransactions that overflowed count where a top-level id
 -- is there, and are not read yet.
-unfoldable pub running : List ℕ → Result RecKind Refusal
+unfoldable pub running : List ℕ → Result RecKind BodyFault
 running main =
     if nat_lt (length main) 24 then Err Length
     else if nat_le 2147483648 (number_at 4 main 0) || nat_le 2147483648 (number_at 4 main 4) then Err Length
@@ -133,7 +133,7 @@ running main =
     (xids_at main 24 (number_at 4 main 0 + number_at 4 main 4)))
 
 -- manager 4, databases (dbcommands_xlog.h): a copy (0x00) or a drop (0x20) of the described one
-unfoldable pub database_kind : ℕ → ℕ → List ℕ → Result RecKind Refusal
+unfoldable pub database_kind : ℕ → ℕ → List ℕ → Result RecKind BodyFault
 database_kind database info main =
     if not ((info == 0x00) || (info == 0x20)) then Ok Other
     else if nat_lt (length main) 4 then Err Length
@@ -141,19 +141,19 @@ database_kind database info main =
     else Ok Other
 
 -- manager 8, standby: locks (0x00) are not read yet
-unfoldable pub standby_kind : ℕ → List ℕ → Result RecKind Refusal
+unfoldable pub standby_kind : ℕ → List ℕ → Result RecKind BodyFault
 standby_kind info main =
     if info == 0x00 then Err (Unsupported NotYet)
     else if info == 0x10 then running main
     else Ok Other
 
 -- a kind of which one info is not read yet, and all others are passed over
-abbrev pub later : ℕ → ℕ → Result RecKind Refusal
+abbrev pub later : ℕ → ℕ → Result RecKind BodyFault
 later wanted info = if info == wanted then Err (Unsupported NotYet) else Ok Other
 
 -- The kind of a record. The low four bits of the info are the log's own (XLR_INFO_MASK, xlogrecord.h),
 -- and heap records and ends of transactions have a mark in the highest one.
-unfoldable pub kind_of : Record → ℕ → List Locator → Result RecKind Refusal
+unfoldable pub kind_of : Record → ℕ → List Locator → Result RecKind BodyFault
 kind_of rec database known =
     if rec.head.manager == 0 then xlog_kind (bit_and rec.head.info 0xF0) rec.main
     else if rec.head.manager == 1 then xact_kind rec.head.info rec.main

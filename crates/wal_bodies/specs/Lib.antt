@@ -3,5 +3,6 @@ pub mod Kinds
 pub mod HeapKinds
 pub mod Tuples
 pub mod Typed
+pub mod Stored
 pub mod Xids
 pub mod Laws

@@ -3,8 +3,8 @@
 use Rattle.std.specs.Prelude.{ℕ, zero, suc, ◌+◌, ◌-◌, ◌%◌, Bool, false, nat_lt, ◌&&◌, ◌||◌, List, [], ◌∷◌, length, drop, take, slice_index, Option, Some, None, is_some, Result, Ok, Err, if◌then◌else◌}
 use Rattle.pg_types.specs.Numbers.{number_at}
 use Rattle.wal_record.specs.Record.{Image, Block, Record}
-use Rattle.wal_bodies.specs.declared.refusal.Refusal.{Refusal}
-use Rattle.wal_bodies.specs.declared.refusal.Refusal.TheVariants.{Length}
+use Rattle.wal_bodies.specs.declared.types.BodyFault.{BodyFault}
+use Rattle.wal_bodies.specs.declared.types.BodyFault.TheVariants.{Length}
 use Rattle.wal_bodies.specs.declared.types.NewTuple.{NewTuple}
 use Rattle.wal_bodies.specs.declared.types.RecKind.{RecKind}
 use Rattle.wal_bodies.specs.declared.types.RecKind.TheVariants.{Checkpoint, BackupEnd, Parameters, FullPageWrites, Images, Overwrite, Ended, Running, Insert, Delete, Update, Confirm, Lock, MultiInsert, LockUpdated, Other}
@@ -22,16 +22,16 @@ tuple_with bytes at prefix suffix rest = record {
 }
 
 -- an insert's tuple: all that stands behind the fields
-unfoldable pub inserted : List ℕ → Result (List NewTuple) Refusal
+unfoldable pub inserted : List ℕ → Result (List NewTuple) BodyFault
 inserted bytes =
     if nat_lt (length bytes) 5 then Err Length else Ok (tuple_with bytes 0 0 0 (drop 5 bytes) ∷ [])
 
 -- a length that the flag says is there, else 0
-unfoldable pub length_from : ℕ → ℕ → List ℕ → Result (ℕ × List ℕ) Refusal
+unfoldable pub length_from : ℕ → ℕ → List ℕ → Result (ℕ × List ℕ) BodyFault
 length_from flags flag bytes = if has flags flag then number_from 2 bytes else Ok (0, bytes)
 
 -- an update's tuple behind the two lengths: it has all its bytes up to the user data, at least
-unfoldable pub replaced : ℕ → ℕ → List ℕ → Result (List NewTuple) Refusal
+unfoldable pub replaced : ℕ → ℕ → List ℕ → Result (List NewTuple) BodyFault
 replaced prefix suffix bytes =
     if nat_lt (length bytes) 5 then Err Length
     else if nat_lt (length bytes) (5 + (slice_index bytes 4 - 23)) then Err Length
@@ -39,7 +39,7 @@ replaced prefix suffix bytes =
 
 -- an update's tuple: the lengths of the parts that are the old tuple's (XLH_UPDATE_PREFIX_FROM_OLD,
 -- XLH_UPDATE_SUFFIX_FROM_OLD) come first
-unfoldable pub updated : ℕ → List ℕ → Result (List NewTuple) Refusal
+unfoldable pub updated : ℕ → List ℕ → Result (List NewTuple) BodyFault
 updated flags bytes = do
   prefix ← length_from flags 0x20 bytes
   suffix ← length_from flags 0x40 prefix.1
@@ -50,7 +50,7 @@ abbrev pub even_from : ℕ → ℕ
 even_from at = at + at % 2
 
 -- one tuple of a multi-insert, of which the number of bytes stands before its fields, and where it ends
-unfoldable pub listed_at : List ℕ → ℕ → Result (NewTuple × ℕ) Refusal
+unfoldable pub listed_at : List ℕ → ℕ → Result (NewTuple × ℕ) BodyFault
 listed_at bytes at =
     if nat_lt (length bytes) (at + 7) then Err Length
     else if nat_lt (length bytes) (at + 7 + number_at 2 bytes at) then Err Length
@@ -60,7 +60,7 @@ listed_at bytes at =
     )
 
 -- n tuples of a multi-insert, each at a multiple of 2
-unfoldable pub listed_from : List ℕ → ℕ → ℕ → Result (List NewTuple) Refusal
+unfoldable pub listed_from : List ℕ → ℕ → ℕ → Result (List NewTuple) BodyFault
 listed_from bytes at zero = Ok []
 listed_from bytes at (suc n) = do
   first ← listed_at bytes (even_from at)
@@ -73,7 +73,7 @@ is_applied None = false
 is_applied (Some image) = image.apply
 
 -- the tuples of a block by its data, if that is used
-abbrev pub in_data : Block → (List ℕ → Result (List NewTuple) Refusal) → Result (List NewTuple) Refusal
+abbrev pub in_data : Block → (List ℕ → Result (List NewTuple) BodyFault) → Result (List NewTuple) BodyFault
 in_data block read = if is_applied block.image then Ok [] else read block.payload
 
 -- parts of the old tuple are used
@@ -81,31 +81,31 @@ abbrev pub borrows : ℕ → Bool
 borrows flags = has flags 0x20 || has flags 0x40
 
 -- the tuple of an insert
-unfoldable pub insert_tuples : Record → Result (List NewTuple) Refusal
+unfoldable pub insert_tuples : Record → Result (List NewTuple) BodyFault
 insert_tuples rec = do
   block ← needed (main_block 0 rec)
   in_data block (λ bytes. inserted bytes)
 
 -- the tuples of a multi-insert with so many lines
-unfoldable pub multi_tuples : ℕ → Record → Result (List NewTuple) Refusal
+unfoldable pub multi_tuples : ℕ → Record → Result (List NewTuple) BodyFault
 multi_tuples count rec = do
   block ← needed (main_block 0 rec)
   in_data block (λ bytes. listed_from bytes 0 count)
 
 -- the tuples of an update, whose parts of the old tuple are only used within one block
-unfoldable pub update_tuples : ℕ → Record → Result (List NewTuple) Refusal
+unfoldable pub update_tuples : ℕ → Record → Result (List NewTuple) BodyFault
 update_tuples flags rec = do
   block ← needed (main_block 0 rec)
   if borrows flags && is_some (main_block 1 rec) then Err Length else in_data block (λ bytes. updated flags bytes)
 
 -- no tuples, in a record that has to have block 0
-unfoldable pub no_tuples : Record → Result (List NewTuple) Refusal
+unfoldable pub no_tuples : Record → Result (List NewTuple) BodyFault
 no_tuples rec = do
   block ← needed (main_block 0 rec)
   Ok []
 
 -- the tuples that a record of this kind puts into its block 0, which a kind of the heap has to have
-unfoldable pub tuples_of : RecKind → Record → Result (List NewTuple) Refusal
+unfoldable pub tuples_of : RecKind → Record → Result (List NewTuple) BodyFault
 tuples_of (Checkpoint redo timeline previous writes next multi member oldest active) rec = Ok []
 tuples_of (BackupEnd start) rec = Ok []
 tuples_of (Parameters connections processes senders prepared locks level) rec = Ok []

@@ -6,12 +6,10 @@ use Rattle.pg_types.specs.declared.names.Lsn.{Lsn}
 use Rattle.pg_types.specs.declared.names.Xid.{Xid}
 use Rattle.wal_record.specs.declared.types.RecordHead.{RecordHead}
 use Rattle.wal_record.specs.Record.{Image, Block, Record}
-use Rattle.wal_bodies.specs.declared.refusal.Refusal.{Refusal}
-use Rattle.wal_bodies.specs.declared.refusal.Refusal.TheVariants.{Length, Unsupported, Memory as NoRoom}
-use Rattle.wal_bodies.specs.declared.types.What.TheVariants.{Epoch}
 use Rattle.wal_bodies.specs.declared.types.BodyFault.{BodyFault}
-use Rattle.wal_bodies.specs.declared.types.BodyFault.TheVariants.{Length as LengthAt, Unsupported as UnsupportedAt, Memory}
-use Rattle.wal_record.specs.declared.new.NewImage.{NewImage}
+use Rattle.wal_bodies.specs.declared.types.BodyFault.TheVariants.{Unsupported}
+use Rattle.wal_bodies.specs.declared.types.What.TheVariants.{Epoch}
+use Rattle.wal_bodies.specs.declared.types.RecImage.{RecImage}
 use Rattle.wal_bodies.specs.declared.types.NewTuple.{NewTuple}
 use Rattle.wal_bodies.specs.declared.types.RecBlock.{RecBlock}
 use Rattle.wal_bodies.specs.declared.types.Rec.{Rec}
@@ -40,8 +38,8 @@ ids_of (MultiInsert flags lines) = 1
 ids_of (LockUpdated xmax line bits flags) = 1
 ids_of Other = 0
 
--- an image of its own
-abbrev pub image_of : Image → NewImage
+-- an image, by what the typed form keeps of it
+abbrev pub image_of : Image → RecImage
 image_of image = record { apply = image.apply; hole_at = image.hole_at; bytes = image.bytes }
 
 -- a block with these tuples
@@ -98,22 +96,16 @@ abbrev pub names_last : RecordHead → RecKind → Bool
 names_last head kind = is_last head.xid || list_any is_last (ended_in kind)
 
 -- what is read of a record, for the described database and the described tables
-unfoldable pub read_as : Record → ℕ → List Locator → Result (RecKind × List RecBlock) Refusal
+unfoldable pub read_as : Record → ℕ → List Locator → Result (RecKind × List RecBlock) BodyFault
 read_as rec database known = do
   kind ← kind_of rec database known
   tuples ← tuples_of kind rec
   if names_last rec.head kind then Err (Unsupported Epoch)
       else Ok (kind, blocks_of (ids_of kind) tuples rec)
 
--- a refusal of the record that begins here
-abbrev pub fault_at : Lsn → Refusal → BodyFault
-fault_at start Length = LengthAt start
-fault_at start (Unsupported what) = UnsupportedAt start what
-fault_at start NoRoom = Memory
-
-abbrev pub formed : RecordHead → Lsn → Lsn → Result (RecKind × List RecBlock) Refusal → Result Rec BodyFault
+abbrev pub formed : RecordHead → Lsn → Lsn → Result (RecKind × List RecBlock) BodyFault → Result Rec BodyFault
 formed head start end (Ok x) = Ok (record { head = head; start = start; end = end; kind = x.0; blocks = x.1 })
-formed head start end (Err refusal) = Err (fault_at start refusal)
+formed head start end (Err fault) = Err fault
 
 -- The typed form of a record that begins and ends at these positions, or the one answer why it has none.
 unfoldable pub typed : Record → Lsn → Lsn → ℕ → List Locator → Result Rec BodyFault
@@ -137,13 +129,3 @@ is_commit head (Lock xmax line bits flags) = false
 is_commit head (MultiInsert flags lines) = false
 is_commit head (LockUpdated xmax line bits flags) = false
 is_commit head Other = false
-
--- the image that the typed form keeps
-abbrev pub kept_image : NewImage → Image
-kept_image image = record { apply = image.apply; hole_at = image.hole_at; bytes = image.bytes }
-
--- the image of the block with this id
-abbrev pub image_with_id : ℕ → List RecBlock → Option Image
-image_with_id id [] = None
-image_with_id id (block ∷ blocks) =
-    if block.id == id then option_map kept_image block.image else image_with_id id blocks

@@ -1,14 +1,11 @@
-ghost use Rattle.std.specs.Prelude.{◌≡◌, ◌⊎◌, ◌+◌, ◌≤◌, ◌<◌, ◌^◌, length, IfOk, option_map};
-ghost use Rattle.wal_bodies.specs.Fields.{first_lines};
+ghost use Rattle.std.specs.Prelude.{◌≡◌, option_map};
 ghost use Rattle.wal_record.specs.Views.{block_of_view};
 ghost use Rattle.wal_bodies.specs.HeapKinds.{insert, delete, update, confirm, lock, lock_updated, multi_insert, multi_insert_of, same_locator, is_described, in_place, heap_kind, heap2_kind};
 
-use crate::fields::{lines_at, main_block};
-use crate::lists::Lines;
-use crate::refusal::Refusal;
-use crate::types::{RecKind, What};
-use pg_types::{Locator, NoMemory, u16_at, u32_at};
-use std::alloc::Global;
+use crate::fields::main_block;
+use crate::types::{BodyFault, RecKind, What};
+use pg_types::{Locator, u16_at};
+use record_fields::{Lines, xid_at};
 use wal_record::{BlockView, RecordView};
 
 /// Of the bits that a record has for the mark of a tuple: xmax is a multixact (`XLHL_XMAX_IS_MULTI`).
@@ -16,7 +13,10 @@ const IS_MULTI: u8 = 0x01;
 
 /// The kinds of heap records.
 #[tactic(auto, unfolding(crate::specs::HeapKinds::heap_kind))]
-pub(crate) fn heap_kind(view: &RecordView<'_>, known: &[Locator]) -> Result<RecKind, Refusal>
+pub(crate) fn heap_kind<'a>(
+    view: &RecordView<'a>,
+    known: &[Locator],
+) -> Result<RecKind<'a>, BodyFault>
     ensures { result ≡ heap_kind view.now known.now }
 {
     let main = view.main();
@@ -33,23 +33,23 @@ pub(crate) fn heap_kind(view: &RecordView<'_>, known: &[Locator]) -> Result<RecK
 
 /// The kinds of the heap's further records.
 #[tactic(auto, unfolding(crate::specs::HeapKinds::heap2_kind))]
-pub(crate) fn heap2_kind(alloc: Global, view: &RecordView<'_>) -> Result<RecKind, Refusal>
-    ensures { (result ≡ Err Refusal.Memory) ⊎ (result ≡ heap2_kind view.now) }
+pub(crate) fn heap2_kind<'a>(view: &RecordView<'a>) -> Result<RecKind<'a>, BodyFault>
+    ensures { result ≡ heap2_kind view.now }
 {
     match view.head().info & 0x70 {
-        0x10..=0x40 => Err(Refusal::Unsupported(What::NotYet)),
-        0x50 => multi_insert_of(alloc, view),
+        0x10..=0x40 => Err(BodyFault::Unsupported(What::NotYet)),
+        0x50 => multi_insert_of(view),
         0x60 => lock_updated(view.main()),
         _ => Ok(RecKind::Other),
     }
 }
 
 #[tactic(auto, unfolding(crate::specs::HeapKinds::insert))]
-fn insert(main: &[u8]) -> Result<RecKind, Refusal>
+fn insert<'a>(main: &[u8]) -> Result<RecKind<'a>, BodyFault>
     ensures { result ≡ insert main.now }
 {
     if main.len() < 3 {
-        return Err(Refusal::Length);
+        return Err(BodyFault::Length);
     }
     Ok(RecKind::Insert {
         line: u16_at(main, 0),
@@ -58,17 +58,17 @@ fn insert(main: &[u8]) -> Result<RecKind, Refusal>
 }
 
 #[tactic(auto, unfolding(crate::specs::HeapKinds::delete))]
-fn delete(main: &[u8]) -> Result<RecKind, Refusal>
+fn delete<'a>(main: &[u8]) -> Result<RecKind<'a>, BodyFault>
     ensures { result ≡ delete main.now }
 {
     if main.len() < 8 {
-        return Err(Refusal::Length);
+        return Err(BodyFault::Length);
     }
     if main[6] & IS_MULTI != 0 {
-        return Err(Refusal::Unsupported(What::NotYet));
+        return Err(BodyFault::Unsupported(What::NotYet));
     }
     Ok(RecKind::Delete {
-        xmax: u32_at(main, 0),
+        xmax: xid_at(main, 0),
         line: u16_at(main, 4),
         bits: main[6],
         flags: main[7],
@@ -76,31 +76,31 @@ fn delete(main: &[u8]) -> Result<RecKind, Refusal>
 }
 
 #[tactic(auto, unfolding(crate::specs::HeapKinds::update))]
-fn update(main: &[u8]) -> Result<RecKind, Refusal>
+fn update<'a>(main: &[u8]) -> Result<RecKind<'a>, BodyFault>
     ensures { result ≡ update main.now }
 {
     if main.len() < 14 {
-        return Err(Refusal::Length);
+        return Err(BodyFault::Length);
     }
     if main[6] & IS_MULTI != 0 {
-        return Err(Refusal::Unsupported(What::NotYet));
+        return Err(BodyFault::Unsupported(What::NotYet));
     }
     Ok(RecKind::Update {
-        old_xmax: u32_at(main, 0),
+        old_xmax: xid_at(main, 0),
         old_line: u16_at(main, 4),
         old_bits: main[6],
         flags: main[7],
-        new_xmax: u32_at(main, 8),
+        new_xmax: xid_at(main, 8),
         new_line: u16_at(main, 12),
     })
 }
 
 #[tactic(auto, unfolding(crate::specs::HeapKinds::confirm))]
-fn confirm(main: &[u8]) -> Result<RecKind, Refusal>
+fn confirm<'a>(main: &[u8]) -> Result<RecKind<'a>, BodyFault>
     ensures { result ≡ confirm main.now }
 {
     if main.len() < 2 {
-        return Err(Refusal::Length);
+        return Err(BodyFault::Length);
     }
     Ok(RecKind::Confirm {
         line: u16_at(main, 0),
@@ -108,17 +108,17 @@ fn confirm(main: &[u8]) -> Result<RecKind, Refusal>
 }
 
 #[tactic(auto, unfolding(crate::specs::HeapKinds::lock))]
-fn lock(main: &[u8]) -> Result<RecKind, Refusal>
+fn lock<'a>(main: &[u8]) -> Result<RecKind<'a>, BodyFault>
     ensures { result ≡ lock main.now }
 {
     if main.len() < 8 {
-        return Err(Refusal::Length);
+        return Err(BodyFault::Length);
     }
     if main[6] & IS_MULTI != 0 {
-        return Err(Refusal::Unsupported(What::NotYet));
+        return Err(BodyFault::Unsupported(What::NotYet));
     }
     Ok(RecKind::Lock {
-        xmax: u32_at(main, 0),
+        xmax: xid_at(main, 0),
         line: u16_at(main, 4),
         bits: main[6],
         flags: main[7],
@@ -126,17 +126,17 @@ fn lock(main: &[u8]) -> Result<RecKind, Refusal>
 }
 
 #[tactic(auto, unfolding(crate::specs::HeapKinds::lock_updated))]
-fn lock_updated(main: &[u8]) -> Result<RecKind, Refusal>
+fn lock_updated<'a>(main: &[u8]) -> Result<RecKind<'a>, BodyFault>
     ensures { result ≡ lock_updated main.now }
 {
     if main.len() < 8 {
-        return Err(Refusal::Length);
+        return Err(BodyFault::Length);
     }
     if main[6] & IS_MULTI != 0 {
-        return Err(Refusal::Unsupported(What::NotYet));
+        return Err(BodyFault::Unsupported(What::NotYet));
     }
     Ok(RecKind::LockUpdated {
-        xmax: u32_at(main, 0),
+        xmax: xid_at(main, 0),
         line: u16_at(main, 4),
         bits: main[6],
         flags: main[7],
@@ -144,57 +144,45 @@ fn lock_updated(main: &[u8]) -> Result<RecKind, Refusal>
 }
 
 #[tactic(auto, unfolding(crate::specs::HeapKinds::multi_insert_of))]
-fn multi_insert_of(alloc: Global, view: &RecordView<'_>) -> Result<RecKind, Refusal>
-    ensures { (result ≡ Err Refusal.Memory) ⊎ (result ≡ multi_insert_of view.now) }
+fn multi_insert_of<'a>(view: &RecordView<'a>) -> Result<RecKind<'a>, BodyFault>
+    ensures { result ≡ multi_insert_of view.now }
 {
     let Some(block) = main_block(view, 0) else {
-        return Err(Refusal::Length);
+        return Err(BodyFault::Length);
     };
-    multi_insert(alloc, view.main(), block.will_init)
+    multi_insert(view.main(), block.will_init)
 }
 
 /// The lines are listed, or in a block that is made anew those from 1 to the count.
 #[tactic(auto, unfolding(crate::specs::HeapKinds::multi_insert))]
-fn multi_insert(alloc: Global, main: &[u8], will_init: bool) -> Result<RecKind, Refusal>
-    ensures { (result ≡ Err Refusal.Memory) ⊎ (result ≡ multi_insert main.now will_init) }
+fn multi_insert<'a>(main: &'a [u8], will_init: bool) -> Result<RecKind<'a>, BodyFault>
+    ensures { result ≡ multi_insert main.now will_init }
 {
     if main.len() < 4 {
-        return Err(Refusal::Length);
+        return Err(BodyFault::Length);
     }
     let flags = main[0];
-    let count = u16_at(main, 2) as usize;
+    let count = u16_at(main, 2);
     if will_init {
-        let lines = first_lines(alloc, count)?;
+        let lines = Lines::first(count);
         return Ok(RecKind::MultiInsert { flags, lines });
     }
+    let count = count as usize;
     if main.len() < 4 + 2 * count {
-        return Err(Refusal::Length);
+        return Err(BodyFault::Length);
     }
-    let lines = lines_at(alloc, main, 4, count)?;
+    let lines = Lines::listed(main, 4, count);
     Ok(RecKind::MultiInsert { flags, lines })
-}
-
-/// The lines from 1 to the count.
-#[tactic(auto, using(crate::proofs::Listed::first_none, crate::proofs::Listed::first_more))]
-fn first_lines(alloc: Global, count: usize) -> Result<Lines, NoMemory>
-    requires { count < 2 ^ 16 }
-    ensures { IfOk result (λ lines. lines ≡ first_lines count) }
-{
-    let mut lines = Lines::new(alloc);
-    for i in 0..count {
-        lines.push((i + 1) as u16)?;
-    }
-    Ok(lines)
 }
 
 /// A change in place is passed over, but not in a described table.
 #[tactic(auto, unfolding(crate::specs::HeapKinds::in_place))]
-fn in_place(known: &[Locator], block: Option<BlockView<'_>>) -> Result<RecKind, Refusal>
+fn in_place<'a>(known: &[Locator], block: Option<BlockView<'_>>) -> Result<RecKind<'a>, BodyFault>
     ensures { result ≡ in_place known.now (option_map (λ view. block_of_view 0 view) block.entry) }
 {
     match block {
         Some(block) if is_described(known, block.locator) => {
-            Err(Refusal::Unsupported(What::InPlace))
+            Err(BodyFault::Unsupported(What::InPlace))
         }
         _ => Ok(RecKind::Other),
     }

@@ -2,11 +2,11 @@
 //! manager and its info (xlogrecord.h; the record structs of each manager, as heapam_xlog.h).
 #![tactic(auto)]
 
+mod blocks;
 mod fields;
 mod heap;
-mod lists;
+mod new_tuples;
 mod rec;
-mod refusal;
 mod running;
 mod tuples;
 mod typed;
@@ -14,7 +14,9 @@ mod types;
 mod xact;
 mod xlog;
 
-pub use lists::{Lines, NewTuples, RecBlocks};
+pub use blocks::RecBlocks;
+pub use new_tuples::NewTuples;
 pub use rec::one_form;
+pub use record_fields::{Lines, RecBytes, Xids};
 pub use typed::body;
-pub use types::{BodyFault, NewTuple, Rec, RecBlock, RecKind, What};
+pub use types::{BodyFault, NewTuple, Rec, RecBlock, RecImage, RecKind, What};

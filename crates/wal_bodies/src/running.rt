@@ -1,43 +1,41 @@
-ghost use Rattle.std.specs.Prelude.{◌≡◌, ◌⊎◌};
+ghost use Rattle.std.specs.Prelude.{◌≡◌};
 ghost use Rattle.wal_bodies.specs.Kinds.{running, standby_kind, database_kind, later};
 
-use crate::fields::{xid_at, xids_at};
-use crate::refusal::Refusal;
-use crate::types::{RecKind, What};
+use crate::types::{BodyFault, RecKind, What};
 use pg_types::u32_at;
-use std::alloc::Global;
+use record_fields::{Xids, xid_at};
 
 /// The kinds of a standby's records, by the info's high four bits.
 #[tactic(auto, unfolding(crate::specs::Kinds::standby_kind))]
-pub(crate) fn standby_kind(alloc: Global, info: u8, main: &[u8]) -> Result<RecKind, Refusal>
-    ensures { (result ≡ Err Refusal.Memory) ⊎ (result ≡ standby_kind info main.now) }
+pub(crate) fn standby_kind<'a>(info: u8, main: &'a [u8]) -> Result<RecKind<'a>, BodyFault>
+    ensures { result ≡ standby_kind info main.now }
 {
     match info {
-        0x00 => Err(Refusal::Unsupported(What::NotYet)),
-        0x10 => running(alloc, main),
+        0x00 => Err(BodyFault::Unsupported(What::NotYet)),
+        0x10 => running(main),
         _ => Ok(RecKind::Other),
     }
 }
 
 /// The transactions that are running.
 #[tactic(auto, unfolding(crate::specs::Kinds::running))]
-fn running(alloc: Global, main: &[u8]) -> Result<RecKind, Refusal>
-    ensures { (result ≡ Err Refusal.Memory) ⊎ (result ≡ running main.now) }
+fn running<'a>(main: &'a [u8]) -> Result<RecKind<'a>, BodyFault>
+    ensures { result ≡ running main.now }
 {
     if main.len() < 24 {
-        return Err(Refusal::Length);
+        return Err(BodyFault::Length);
     }
     let tops = u32_at(main, 0);
     let subs = u32_at(main, 4);
     if 0x8000_0000 <= tops || 0x8000_0000 <= subs {
-        return Err(Refusal::Length);
+        return Err(BodyFault::Length);
     }
     if main[8] != 0 && 0 < tops {
-        return Err(Refusal::Unsupported(What::NotYet));
+        return Err(BodyFault::Unsupported(What::NotYet));
     }
     let count = tops as usize + subs as usize;
     if main.len() < 24 + 4 * count {
-        return Err(Refusal::Length);
+        return Err(BodyFault::Length);
     }
     Ok(RecKind::Running {
         tops,
@@ -46,34 +44,38 @@ fn running(alloc: Global, main: &[u8]) -> Result<RecKind, Refusal>
         next: xid_at(main, 12),
         oldest: xid_at(main, 16),
         latest: xid_at(main, 20),
-        xids: xids_at(alloc, main, 24, count)?,
+        xids: Xids::new(main, 24, count),
     })
 }
 
 /// The kinds of a database's records, by the info's high four bits: the described one may be neither
 /// copied to nor dropped.
 #[tactic(auto, unfolding(crate::specs::Kinds::database_kind))]
-pub(crate) fn database_kind(database: u32, info: u8, main: &[u8]) -> Result<RecKind, Refusal>
+pub(crate) fn database_kind<'a>(
+    database: u32,
+    info: u8,
+    main: &[u8],
+) -> Result<RecKind<'a>, BodyFault>
     ensures { result ≡ database_kind database info main.now }
 {
     if info != 0x00 && info != 0x20 {
         return Ok(RecKind::Other);
     }
     if main.len() < 4 {
-        return Err(Refusal::Length);
+        return Err(BodyFault::Length);
     }
     if u32_at(main, 0) == database {
-        return Err(Refusal::Unsupported(What::Database));
+        return Err(BodyFault::Unsupported(What::Database));
     }
     Ok(RecKind::Other)
 }
 
 /// One info of a manager is not read yet, and the others are passed over.
-pub(crate) fn later(wanted: u8, info: u8) -> Result<RecKind, Refusal>
+pub(crate) fn later<'a>(wanted: u8, info: u8) -> Result<RecKind<'a>, BodyFault>
     ensures { result ≡ later wanted info }
 {
     if info == wanted {
-        return Err(Refusal::Unsupported(What::NotYet));
+        return Err(BodyFault::Unsupported(What::NotYet));
     }
     Ok(RecKind::Other)
 }

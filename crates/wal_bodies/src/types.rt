@@ -1,25 +1,27 @@
-use crate::lists::{Lines, NewTuples, RecBlocks};
-use pg_types::{Bytes, Locator, Lsn, NoMemory, Tli, Xid, XidList};
+use crate::blocks::RecBlocks;
+use crate::new_tuples::NewTuples;
+use pg_types::{Locator, Lsn, Tli, Xid};
+use record_fields::{Lines, RecBytes, Xids};
 use thiserror::Error;
-use wal_record::{NewImage, RecordHead};
+use wal_record::RecordHead;
 
-/// A record in typed form.
+/// A record in typed form, lent from the record's bytes.
 #[derive(Debug, Drop)]
-pub struct Rec {
+pub struct Rec<'a> {
     /// The record's header. Its info tells apart the kinds that share a variant of `RecKind`.
     pub head: RecordHead,
     /// Where the record begins.
     pub start: Lsn,
     /// Where it ends: one past its last byte, rounded up to a multiple of 8.
     pub end: Lsn,
-    pub kind: RecKind,
+    pub kind: RecKind<'a>,
     /// The blocks of the main fork that redo of this kind changes, by rising id.
-    pub blocks: RecBlocks,
+    pub blocks: RecBlocks<'a>,
 }
 
 /// What a record's main data says. The fields of a variant stand in the order of the record's own.
 #[derive(Debug, Drop)]
-pub enum RecKind {
+pub enum RecKind<'a> {
     /// A checkpoint (`CheckPoint`, pg_control.h): at shutdown (info 0x00) or online (0x10).
     Checkpoint {
         /// Where redo begins.
@@ -72,7 +74,7 @@ pub enum RecKind {
         /// Which further parts the record has, 0 where it says nothing of them.
         xinfo: u32,
         /// The transaction's subtransactions.
-        xids: XidList,
+        xids: Xids<'a>,
     },
     /// The transactions that are running (`xl_running_xacts`, standbydefs.h).
     Running {
@@ -86,7 +88,7 @@ pub enum RecKind {
         oldest: Xid,
         /// The latest id that ended.
         latest: Xid,
-        xids: XidList,
+        xids: Xids<'a>,
     },
     /// A tuple is inserted at this line of block 0 (`xl_heap_insert`).
     Insert {
@@ -95,7 +97,7 @@ pub enum RecKind {
     },
     /// The tuple at this line of block 0 is deleted (`xl_heap_delete`).
     Delete {
-        xmax: u32,
+        xmax: Xid,
         line: u16,
         bits: u8,
         flags: u8,
@@ -103,11 +105,11 @@ pub enum RecKind {
     /// A new tuple in block 0 replaces an old one, in block 1 where there is one (`xl_heap_update`):
     /// `info & 0x70` is 0x20, or 0x40 where the new tuple is heap-only.
     Update {
-        old_xmax: u32,
+        old_xmax: Xid,
         old_line: u16,
         old_bits: u8,
         flags: u8,
-        new_xmax: u32,
+        new_xmax: Xid,
         new_line: u16,
     },
     /// A speculative insertion stands (`xl_heap_confirm`).
@@ -116,7 +118,7 @@ pub enum RecKind {
     },
     /// The tuple at this line of block 0 is locked (`xl_heap_lock`).
     Lock {
-        xmax: u32,
+        xmax: Xid,
         line: u16,
         bits: u8,
         flags: u8,
@@ -125,11 +127,11 @@ pub enum RecKind {
     /// made anew these are the lines from 1 on.
     MultiInsert {
         flags: u8,
-        lines: Lines,
+        lines: Lines<'a>,
     },
     /// A tuple that was updated is locked too (`xl_heap_lock_updated`).
     LockUpdated {
-        xmax: u32,
+        xmax: Xid,
         line: u16,
         bits: u8,
         flags: u8,
@@ -140,22 +142,32 @@ pub enum RecKind {
 
 /// A block that redo changes.
 #[derive(Debug, Drop)]
-pub struct RecBlock {
+pub struct RecBlock<'a> {
     /// The block's id in the record.
     pub id: u8,
     pub locator: Locator,
     pub block: u32,
     /// The page is made anew before the change.
     pub will_init: bool,
-    pub image: Option<NewImage>,
+    pub image: Option<RecImage<'a>>,
     /// The tuples that the record puts into the block. None beside an image that is to be applied,
     /// which shows them.
-    pub tuples: NewTuples,
+    pub tuples: NewTuples<'a>,
+}
+
+/// A page image that a record holds of a block.
+#[derive(Debug, Drop)]
+pub struct RecImage<'a> {
+    /// Replay restores the page from the image.
+    pub apply: bool,
+    /// Where the hole begins that `bytes` leave out: zeros, so many that the page has 8192 bytes.
+    pub hole_at: u16,
+    pub bytes: RecBytes<'a>,
 }
 
 /// A tuple by what a record holds of it (`xl_heap_header`, heapam_xlog.h).
 #[derive(Debug, Drop)]
-pub struct NewTuple {
+pub struct NewTuple<'a> {
     /// The infomask2: number of columns, and flags.
     pub mask2: u16,
     /// The infomask.
@@ -167,7 +179,7 @@ pub struct NewTuple {
     /// How many are as its last ones.
     pub suffix: u16,
     /// The rest, from the tuple's byte 23 on, without the bytes of `prefix` and `suffix`.
-    pub rest: Bytes,
+    pub rest: RecBytes<'a>,
 }
 
 /// Why a record is not applied.
@@ -175,11 +187,9 @@ pub struct NewTuple {
 pub enum BodyFault {
     /// Main data or block data is shorter than the kind needs, a count is below 0, or block 0 is missing.
     #[error("the record's body is too short")]
-    Length { lsn: Lsn },
+    Length,
     #[error("the record is of a kind that is not supported")]
-    Unsupported { lsn: Lsn, what: What },
-    #[error("out of memory")]
-    Memory,
+    Unsupported(What),
 }
 
 /// What this standby does not support.
@@ -199,15 +209,4 @@ pub enum What {
     Epoch,
     /// A kind that is not built yet.
     NotYet,
-}
-
-impl From<NoMemory> for BodyFault {
-    ghost use Rattle.std.specs.Prelude.{◌≡◌};
-    ghost use Rattle.wal_bodies.specs.declared.types.BodyFault.TheVariants.{Memory};
-
-    ghost from_gives = { λ _ fault. fault ≡ Memory };
-
-    fn from(_: NoMemory) -> BodyFault {
-        BodyFault::Memory
-    }
 }

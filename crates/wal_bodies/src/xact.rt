@@ -1,43 +1,41 @@
-ghost use Rattle.std.specs.Prelude.{◌≡◌, ◌⊎◌, ◌+◌, ◌≤◌, length};
+ghost use Rattle.std.specs.Prelude.{◌≡◌};
 ghost use Rattle.wal_bodies.specs.Fields.{number_from, behind, result_map};
 ghost use Rattle.wal_bodies.specs.Kinds.{time_from, xinfo_from, behind_database, count_from, counted_xids, subs_from, parts_by, ended, xact_kind};
 
-use crate::fields::{i64_at, xids_at};
-use crate::refusal::Refusal;
-use crate::types::{RecKind, What};
-use pg_types::{XidList, u32_at};
-use std::alloc::Global;
+use crate::types::{BodyFault, RecKind, What};
+use pg_types::u32_at;
+use record_fields::{Xids, i64_at};
 
 /// The kinds of a transaction's records.
 #[tactic(auto, unfolding(crate::specs::Kinds::xact_kind))]
-pub(crate) fn xact_kind(alloc: Global, info: u8, main: &[u8]) -> Result<RecKind, Refusal>
-    ensures { (result ≡ Err Refusal.Memory) ⊎ (result ≡ xact_kind info main.now) }
+pub(crate) fn xact_kind<'a>(info: u8, main: &'a [u8]) -> Result<RecKind<'a>, BodyFault>
+    ensures { result ≡ xact_kind info main.now }
 {
     match info & 0x70 {
-        0x00 | 0x20 => ended(alloc, info, main),
-        0x50 => Err(Refusal::Unsupported(What::NotYet)),
-        0x10 | 0x30 | 0x40 => Err(Refusal::Unsupported(What::Prepared)),
+        0x00 | 0x20 => ended(info, main),
+        0x50 => Err(BodyFault::Unsupported(What::NotYet)),
+        0x10 | 0x30 | 0x40 => Err(BodyFault::Unsupported(What::Prepared)),
         _ => Ok(RecKind::Other),
     }
 }
 
 /// The end of a transaction.
 #[tactic(auto, unfolding(crate::specs::Kinds::ended))]
-fn ended(alloc: Global, info: u8, main: &[u8]) -> Result<RecKind, Refusal>
-    ensures { (result ≡ Err Refusal.Memory) ⊎ (result ≡ ended info main.now) }
+fn ended<'a>(info: u8, main: &'a [u8]) -> Result<RecKind<'a>, BodyFault>
+    ensures { result ≡ ended info main.now }
 {
     let (time, rest) = time_from(main)?;
     let (xinfo, rest) = xinfo_from(info, rest)?;
-    let xids = parts_by(alloc, xinfo, rest)?;
+    let xids = parts_by(xinfo, rest)?;
     Ok(RecKind::Ended { time, xinfo, xids })
 }
 
 #[tactic(auto, unfolding(crate::specs::Kinds::time_from, crate::specs::Fields::number_from))]
-fn time_from(text: &[u8]) -> Result<(i64, &[u8]), Refusal>
+fn time_from(text: &[u8]) -> Result<(i64, &[u8]), BodyFault>
     ensures { result_map (λ x. (x.0, x.1.now)) result ≡ time_from text.now }
 {
     if text.len() < 8 {
-        return Err(Refusal::Length);
+        return Err(BodyFault::Length);
     }
     let (_, rest) = text.split_at(8);
     Ok((i64_at(text, 0), rest))
@@ -45,7 +43,7 @@ fn time_from(text: &[u8]) -> Result<(i64, &[u8]), Refusal>
 
 /// Further parts are told where the info's highest bit is set.
 #[tactic(auto, unfolding(crate::specs::Kinds::xinfo_from))]
-fn xinfo_from(info: u8, text: &[u8]) -> Result<(u32, &[u8]), Refusal>
+fn xinfo_from(info: u8, text: &[u8]) -> Result<(u32, &[u8]), BodyFault>
     ensures { result_map (λ x. (x.0, x.1.now)) result ≡ xinfo_from info text.now }
 {
     if info & 0x80 == 0 {
@@ -56,11 +54,11 @@ fn xinfo_from(info: u8, text: &[u8]) -> Result<(u32, &[u8]), Refusal>
 
 /// A number of four bytes, and what stands behind it.
 #[tactic(auto, unfolding(crate::specs::Fields::number_from))]
-fn long(text: &[u8]) -> Result<(u32, &[u8]), Refusal>
+fn long(text: &[u8]) -> Result<(u32, &[u8]), BodyFault>
     ensures { result_map (λ x. (x.0, x.1.now)) result ≡ number_from 4 text.now }
 {
     if text.len() < 4 {
-        return Err(Refusal::Length);
+        return Err(BodyFault::Length);
     }
     let (_, rest) = text.split_at(4);
     Ok((u32_at(text, 0), rest))
@@ -68,62 +66,62 @@ fn long(text: &[u8]) -> Result<(u32, &[u8]), Refusal>
 
 /// The subtransactions, by the parts that xinfo tells.
 #[tactic(auto, unfolding(crate::specs::Kinds::parts_by))]
-fn parts_by(alloc: Global, xinfo: u32, text: &[u8]) -> Result<XidList, Refusal>
-    ensures { (result ≡ Err Refusal.Memory) ⊎ (result ≡ parts_by xinfo text.now) }
+fn parts_by<'a>(xinfo: u32, text: &'a [u8]) -> Result<Xids<'a>, BodyFault>
+    ensures { result ≡ parts_by xinfo text.now }
 {
     if xinfo & 0x04 != 0 {
-        return Err(Refusal::Unsupported(What::NotYet));
+        return Err(BodyFault::Unsupported(What::NotYet));
     }
     let rest = behind_database(xinfo, text)?;
-    subs_from(alloc, xinfo, rest)
+    subs_from(xinfo, rest)
 }
 
 /// The database and its tablespace are passed over.
 #[tactic(auto, unfolding(crate::specs::Kinds::behind_database, crate::specs::Fields::behind))]
-fn behind_database(xinfo: u32, text: &[u8]) -> Result<&[u8], Refusal>
+fn behind_database(xinfo: u32, text: &[u8]) -> Result<&[u8], BodyFault>
     ensures { result_map (λ x. x.now) result ≡ behind_database xinfo text.now }
 {
     if xinfo & 0x01 == 0 {
         return Ok(text);
     }
     if text.len() < 8 {
-        return Err(Refusal::Length);
+        return Err(BodyFault::Length);
     }
     let (_, rest) = text.split_at(8);
     Ok(rest)
 }
 
 #[tactic(auto, unfolding(crate::specs::Kinds::subs_from))]
-fn subs_from(alloc: Global, xinfo: u32, text: &[u8]) -> Result<XidList, Refusal>
-    ensures { (result ≡ Err Refusal.Memory) ⊎ (result ≡ subs_from xinfo text.now) }
+fn subs_from<'a>(xinfo: u32, text: &'a [u8]) -> Result<Xids<'a>, BodyFault>
+    ensures { result ≡ subs_from xinfo text.now }
 {
     if xinfo & 0x02 == 0 {
-        return Ok(XidList::new(alloc));
+        return Ok(Xids::none());
     }
-    counted_xids(alloc, text)
+    counted_xids(text)
 }
 
 /// A count that is not below 0, and what stands behind it.
 #[tactic(auto, unfolding(crate::specs::Kinds::count_from))]
-fn count_from(text: &[u8]) -> Result<(u32, &[u8]), Refusal>
+fn count_from(text: &[u8]) -> Result<(u32, &[u8]), BodyFault>
     ensures { result_map (λ x. (x.0, x.1.now)) result ≡ count_from text.now }
 {
     let (count, rest) = long(text)?;
     if 0x8000_0000 <= count {
-        return Err(Refusal::Length);
+        return Err(BodyFault::Length);
     }
     Ok((count, rest))
 }
 
 /// A count, and as many transaction ids.
 #[tactic(auto, unfolding(crate::specs::Kinds::counted_xids))]
-fn counted_xids(alloc: Global, text: &[u8]) -> Result<XidList, Refusal>
-    ensures { (result ≡ Err Refusal.Memory) ⊎ (result ≡ counted_xids text.now) }
+fn counted_xids<'a>(text: &'a [u8]) -> Result<Xids<'a>, BodyFault>
+    ensures { result ≡ counted_xids text.now }
 {
     let (count, rest) = count_from(text)?;
     let count = count as usize;
     if rest.len() < 4 * count {
-        return Err(Refusal::Length);
+        return Err(BodyFault::Length);
     }
-    Ok(xids_at(alloc, rest, 0, count)?)
+    Ok(Xids::new(rest, 0, count))
 }

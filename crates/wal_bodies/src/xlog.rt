@@ -1,17 +1,16 @@
 ghost use Rattle.std.specs.Prelude.{◌≡◌};
 ghost use Rattle.wal_bodies.specs.Kinds.{checkpoint, backup_end, parameters, page_writes, overwrite, xlog_kind};
 
-use crate::fields::{i32_at, i64_at, lsn_at, tli_at, xid_at};
-use crate::refusal::Refusal;
-use crate::types::{RecKind, What};
+use crate::types::{BodyFault, RecKind, What};
 use pg_types::{Xid, u32_at, u64_at};
+use record_fields::{i32_at, i64_at, lsn_at, tli_at, xid_at};
 
 /// The least transaction id past the first epoch.
 const NEXT_EPOCH: u64 = 1 << 32;
 
 /// The kinds of the log's own records, by the info's high four bits.
 #[tactic(auto, unfolding(crate::specs::Kinds::xlog_kind))]
-pub(crate) fn xlog_kind(info: u8, main: &[u8]) -> Result<RecKind, Refusal>
+pub(crate) fn xlog_kind<'a>(info: u8, main: &[u8]) -> Result<RecKind<'a>, BodyFault>
     ensures { result ≡ xlog_kind info main.now }
 {
     match info {
@@ -19,7 +18,7 @@ pub(crate) fn xlog_kind(info: u8, main: &[u8]) -> Result<RecKind, Refusal>
         0x50 => backup_end(main),
         0x60 => parameters(main),
         0x80 => page_writes(main),
-        0x90 => Err(Refusal::Unsupported(What::NotYet)),
+        0x90 => Err(BodyFault::Unsupported(What::NotYet)),
         0xA0 | 0xB0 => Ok(RecKind::Images),
         0xD0 => overwrite(main),
         _ => Ok(RecKind::Other),
@@ -27,21 +26,21 @@ pub(crate) fn xlog_kind(info: u8, main: &[u8]) -> Result<RecKind, Refusal>
 }
 
 #[tactic(auto, unfolding(crate::specs::Kinds::checkpoint))]
-fn checkpoint(main: &[u8]) -> Result<RecKind, Refusal>
+fn checkpoint<'a>(main: &[u8]) -> Result<RecKind<'a>, BodyFault>
     ensures { result ≡ checkpoint main.now }
 {
     if main.len() < 88 {
-        return Err(Refusal::Length);
+        return Err(BodyFault::Length);
     }
     if u32_at(main, 8) != 1 || u32_at(main, 12) != 1 {
-        return Err(Refusal::Unsupported(What::NotYet));
+        return Err(BodyFault::Unsupported(What::NotYet));
     }
     if main[16] == 0 {
-        return Err(Refusal::Unsupported(What::PageWrites));
+        return Err(BodyFault::Unsupported(What::PageWrites));
     }
     let next = u64_at(main, 24);
     if NEXT_EPOCH <= next {
-        return Err(Refusal::Unsupported(What::Epoch));
+        return Err(BodyFault::Unsupported(What::Epoch));
     }
     Ok(RecKind::Checkpoint {
         redo: lsn_at(main, 0),
@@ -57,11 +56,11 @@ fn checkpoint(main: &[u8]) -> Result<RecKind, Refusal>
 }
 
 #[tactic(auto, unfolding(crate::specs::Kinds::backup_end))]
-fn backup_end(main: &[u8]) -> Result<RecKind, Refusal>
+fn backup_end<'a>(main: &[u8]) -> Result<RecKind<'a>, BodyFault>
     ensures { result ≡ backup_end main.now }
 {
     if main.len() < 8 {
-        return Err(Refusal::Length);
+        return Err(BodyFault::Length);
     }
     Ok(RecKind::BackupEnd {
         start: lsn_at(main, 0),
@@ -69,14 +68,14 @@ fn backup_end(main: &[u8]) -> Result<RecKind, Refusal>
 }
 
 #[tactic(auto, unfolding(crate::specs::Kinds::parameters))]
-fn parameters(main: &[u8]) -> Result<RecKind, Refusal>
+fn parameters<'a>(main: &[u8]) -> Result<RecKind<'a>, BodyFault>
     ensures { result ≡ parameters main.now }
 {
     if main.len() < 24 {
-        return Err(Refusal::Length);
+        return Err(BodyFault::Length);
     }
     if u32_at(main, 20) == 0 {
-        return Err(Refusal::Unsupported(What::Minimal));
+        return Err(BodyFault::Unsupported(What::Minimal));
     }
     Ok(RecKind::Parameters {
         max_connections: i32_at(main, 0),
@@ -89,24 +88,24 @@ fn parameters(main: &[u8]) -> Result<RecKind, Refusal>
 }
 
 #[tactic(auto, unfolding(crate::specs::Kinds::page_writes))]
-fn page_writes(main: &[u8]) -> Result<RecKind, Refusal>
+fn page_writes<'a>(main: &[u8]) -> Result<RecKind<'a>, BodyFault>
     ensures { result ≡ page_writes main.now }
 {
     if main.is_empty() {
-        return Err(Refusal::Length);
+        return Err(BodyFault::Length);
     }
     if main[0] == 0 {
-        return Err(Refusal::Unsupported(What::PageWrites));
+        return Err(BodyFault::Unsupported(What::PageWrites));
     }
     Ok(RecKind::FullPageWrites { on: main[0] != 0 })
 }
 
 #[tactic(auto, unfolding(crate::specs::Kinds::overwrite))]
-fn overwrite(main: &[u8]) -> Result<RecKind, Refusal>
+fn overwrite<'a>(main: &[u8]) -> Result<RecKind<'a>, BodyFault>
     ensures { result ≡ overwrite main.now }
 {
     if main.len() < 16 {
-        return Err(Refusal::Length);
+        return Err(BodyFault::Length);
     }
     Ok(RecKind::Overwrite {
         given_up: lsn_at(main, 0),

@@ -212,6 +212,18 @@ impl<'a> RecordView<'a> {
         find(self.text, self.payloads, id)
     }
 
+    /// The same record, lent once more.
+    pub fn again(&self) -> RecordView<'a>
+        ensures { result ≡ self.now }
+    {
+        RecordView {
+            head: self.head,
+            text: self.text,
+            payloads: self.payloads,
+            main: self.main,
+        }
+    }
+
     /// Main data, empty where the record has none.
     pub fn main(&self) -> &'a [u8]
         ensures { result.now ≡ self.now.main }

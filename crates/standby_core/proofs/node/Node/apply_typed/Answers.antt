@@ -1,6 +1,6 @@
-use Rattle.std.proofs.Common.{Err, sym, subst}
+use Rattle.std.proofs.Common.{sym, subst}
 use Rattle.page_store.specs.Content.{content}
-use Rattle.heap_redo.specs.Redone.{Stands, view_of}
+use Rattle.heap_redo.specs.Redone.{view_of}
 use Rattle.xact_redo.specs.State.{transactions}
 use Rattle.standby_core.specs.Standby.{Standby}
 use Rattle.standby_core.specs.Steps.{RecReplays}
@@ -14,6 +14,6 @@ returns-in-Err-clause-replays c =
     let node = c.args.self.now in
     let rec = c.args.rec.now in
     let now : Standby = record (standby node) { blocks = view_of (content c.redo.new.pool); transactions = transactions c.reserve.new.state } in
-    let stands = subst (λ known. Stands rec known (view_of (content node.pool)) (view_of (content c.redo.new.pool)) (Err c.in-Err.fault)) c.as_slice.ensures.value c.in-Err.ensures.answer in
+    let stands = c.in-Err.ensures.answer in
     subst (λ r. RecReplays rec r (standby node) now) (sym c.refuse_blocks.ensures)
     (blocks_refused rec (standby node) now node.at c.in-Err.fault (sym (same_lsn node.reader.at node.at node.same_at)) stands)

@@ -1,0 +1,9 @@
+//! The fields of a record's main data and of a block's data, and the lists of them that are read where
+//! they stand in the record.
+#![tactic(auto)]
+
+mod fields;
+mod lists;
+
+pub use fields::{i32_at, i64_at, lsn_at, tli_at, xid_at};
+pub use lists::{Lines, RecBytes, Xids};
