@@ -2,6 +2,7 @@ ghost use Rattle.std.specs.Prelude.{◌≡◌};
 
 use crate::items::{header, tuple};
 use crate::kinds::columns;
+use crate::printed::of_tuple;
 use crate::rows::row_text;
 use case_text::{ShowHex, Wrong, bytes, number_u16, number_u32};
 use heap_tuple::{MaxOf, TupleView, is_lock_only, is_tuple, is_tuple_head};
@@ -29,6 +30,7 @@ fn by_fields(alloc: Global, words: &[&str]) -> Result<String, Wrong> {
             }
             "head" => head_text(alloc, rest),
             "row" => row(alloc, rest),
+            "print" => of_tuple(alloc, rest),
             _ => Err(Wrong::Line),
         },
         None => Err(Wrong::Line),

@@ -14,7 +14,7 @@ mod records;
 mod sinks;
 mod vocabulary;
 
-use case_text::{BadLine, Wrong, bytes, input, words};
+use case_text::{BadLine, Wrong, bytes, input, parts, words};
 
 fn main(rt: HostRuntime) -> anyhow::Result<()> {
     let text = input(&rt)?;
@@ -49,17 +49,6 @@ fn answer(rt: &HostRuntime, line: &str) -> Result<(), Wrong> {
             }
         }
         _ => Err(Wrong::Line),
-    }
-}
-
-/// What is asked, and the hex behind the notation.
-fn parts(line: &str) -> (&str, &str) {
-    match line.split_once(" | ") {
-        Some((asked, rest)) => match rest.split_once(" | ") {
-            Some((_, hex)) => (asked, hex),
-            None => (asked, "-"),
-        },
-        None => (line, "-"),
     }
 }
 
