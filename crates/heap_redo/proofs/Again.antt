@@ -8,7 +8,7 @@ use Rattle.pg_types.specs.declared.names.Locator.{Locator}
 use Rattle.heap_page.specs.Item.{Item}
 use Rattle.heap_page.specs.Page.{is_page, lsn_of, items_of}
 use Rattle.page_store.specs.Content.{zeros, is_at}
-use Rattle.wal_record.specs.declared.new.NewImage.{NewImage}
+use Rattle.wal_bodies.specs.declared.types.RecImage.{RecImage}
 use Rattle.wal_bodies.specs.declared.types.Rec.{Rec}
 use Rattle.wal_bodies.specs.declared.types.RecBlock.{RecBlock}
 use Rattle.heap_redo.specs.After.{BlockRefusal, no_page, bad_page, Content, missing, broken, page, applied, is_images, page_of_image, made_anew, paged, changed, changed_page, after_change, after_image, after}
@@ -44,7 +44,7 @@ by_cases : {X : Type 0} (v : Bool) (a b c : X) (P : Type 0) → (v ≡ true → 
 by_cases true a b c P f g e = f refl e
 by_cases false a b c P f g e = g refl e
 
-image-page : (rec : Rec) (block : RecBlock) (before content : Content) (image : Option NewImage) → (is_images rec.kind && not (is_some image)) ≡ false → after_image rec block before image ≡ Ok content → is_page_content content ≡ true
+image-page : (rec : Rec) (block : RecBlock) (before content : Content) (image : Option RecImage) → (is_images rec.kind && not (is_some image)) ≡ false → after_image rec block before image ≡ Ok content → is_page_content content ≡ true
 unfolding after_change
 image-page rec block before content (Some image) h e =
     restored-page (is_page (page_of_image image)) (items_of (page_of_image image)) content e
@@ -107,7 +107,7 @@ module _ (rec : Rec) (block : RecBlock) where
       redone-done rec block other s (ap (λ v. not v && has_reached rec.end.0 s) anew ∙ h)
 
   -- a page that is made anew does not depend on what stood there
-  after-same : (block.block == 4294967295) ≡ false → is_anew block ≡ true → is_left rec block ≡ false → (image : Option NewImage) → applied block.image ≡ image → (a b : Content) → after rec block a ≡ after rec block b
+  after-same : (block.block == 4294967295) ≡ false → is_anew block ≡ true → is_left rec block ≡ false → (image : Option RecImage) → applied block.image ≡ image → (a b : Content) → after rec block a ≡ after rec block b
   after-same other anew h None e a b = sym (after-anew rec block other e anew h a) ∙ after-anew rec block other e anew h b
   after-same other anew h (Some image) e a b = sym (after-restored rec block other image e a) ∙ after-restored rec block other image e b
 

@@ -3,7 +3,7 @@ use Rattle.std.proofs.Common.{arith, ap, sym, refl, ◌∙◌, ◌≡◌, ◌≢
 use Rattle.std.proofs.lemmas.Bool.{false≢true}
 use Rattle.std.proofs.lemmas.Bool.Decides.{nat_tests}
 use Rattle.heap_page.specs.Page.{IsPage, is_page, lsn_of, items_of}
-use Rattle.wal_record.specs.declared.new.NewImage.{NewImage}
+use Rattle.wal_bodies.specs.declared.types.RecImage.{RecImage}
 use Rattle.wal_bodies.specs.declared.types.Rec.{Rec}
 use Rattle.wal_bodies.specs.declared.types.RecBlock.{RecBlock}
 use Rattle.heap_redo.specs.After.{BlockRefusal, no_page, bad_page, Content, missing, broken, page, applied, is_images, page_of_image, after_restore, made_anew, paged, changed, changed_page, after_change, after_image, after}
@@ -19,14 +19,14 @@ pub paged-outcome : (bytes : List ℕ) (result : Result (Unit {0}) Refusal) → 
 paged-outcome bytes (Ok done) = refl
 paged-outcome bytes (Err refusal) = refl
 
-pub no_image : (image : Option NewImage) → ((x : NewImage) → image ≡ Some x → ⊥) → applied image ≡ None
+pub no_image : (image : Option RecImage) → ((x : RecImage) → image ≡ Some x → ⊥) → applied image ≡ None
 no_image None h = refl
 no_image (Some x) h = absurd (h x refl)
 
-pub unapplied : (image : Option NewImage) (x : NewImage) → image ≡ Some x → x.apply ≡ false → applied image ≡ None
+pub unapplied : (image : Option RecImage) (x : RecImage) → image ≡ Some x → x.apply ≡ false → applied image ≡ None
 unapplied image x e h = ap applied e ∙ ap (λ v. cond v (Some x) None) h
 
-pub restored-image : (image : Option NewImage) (x : NewImage) → image ≡ Some x → x.apply ≡ true → applied image ≡ Some x
+pub restored-image : (image : Option RecImage) (x : RecImage) → image ≡ Some x → x.apply ≡ true → applied image ≡ Some x
 restored-image image x e h = ap applied e ∙ ap (λ v. cond v (Some x) None) h
 
 none : {X : Type 0} → (o : Option X) → is_some o ≡ false → o ≡ None
@@ -63,25 +63,25 @@ module _ (rec : Rec) (block : RecBlock) where
   image-not h = none (applied block.image) (or-left (is_some (applied block.image)) block.will_init h)
 
   -- an image is restored
-  pub image-anew : (image : NewImage) → applied block.image ≡ Some image → is_anew block ≡ true
+  pub image-anew : (image : RecImage) → applied block.image ≡ Some image → is_anew block ≡ true
   image-anew image restored = ap (λ found. is_some found || block.will_init) restored
 
   and-not : (a : Bool) → (a && false) ≡ false
   and-not true = refl
   and-not false = refl
 
-  pub image-not_left : (image : NewImage) → applied block.image ≡ Some image → is_left rec block ≡ false
+  pub image-not_left : (image : RecImage) → applied block.image ≡ Some image → is_left rec block ≡ false
   image-not_left image restored = ap (λ found. is_images rec.kind && not (is_some found)) restored ∙ and-not (is_images rec.kind)
 
   -- the block is not the one that no table has
   module _ (not-last : (block.block == 4294967295) ≡ false) where
-    after-is : (before : Content) (image : Option NewImage) → applied block.image ≡ image → after rec block before ≡ after_image rec block before image
+    after-is : (before : Content) (image : Option RecImage) → applied block.image ≡ image → after rec block before ≡ after_image rec block before image
     unfolding after
     after-is before image e =
         ap (λ v. cond v (Err no_page) (after_image rec block before (applied block.image))) not-last
         ∙ ap (after_image rec block before) e
 
-    pub after-restored : (image : NewImage) → applied block.image ≡ Some image → (before : Content) → after_restore image ≡ after rec block before
+    pub after-restored : (image : RecImage) → applied block.image ≡ Some image → (before : Content) → after_restore image ≡ after rec block before
     after-restored image e before = sym (after-is before (Some image) e)
 
     after-changing : applied block.image ≡ None → is_left rec block ≡ false → (before : Content) → after rec block before ≡ changed_page rec block (made_anew block.will_init before)
@@ -132,7 +132,7 @@ module _ (rec : Rec) (block : RecBlock) where
         sym (redone-by before (ap (λ v. not v && has_reached rec.end.0 before) anew) ∙ ap (left_by rec block before) (sym e))
 
     -- a block whose image is restored
-    module _ (image : NewImage) (restored : applied block.image ≡ Some image) where
+    module _ (image : RecImage) (restored : applied block.image ≡ Some image) where
       after-tested : (v : Bool) → is_page (page_of_image image) ≡ v → (before : Content) → cond v (Ok (page (items_of (page_of_image image)))) (Err bad_page) ≡ after rec block before
       after-tested v tested before =
           let answer : Bool → Result Content BlockRefusal = λ b. cond b (Ok (page (items_of (page_of_image image)))) (Err bad_page) in

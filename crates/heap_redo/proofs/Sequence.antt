@@ -1,12 +1,10 @@
 -- The blocks of a record, one after the other.
-use Rattle.std.proofs.Common.{ap, sym, refl, ◌∙◌, ◌≡◌, ◌<◌, ◌+◌, ℕ, List, [], ◌∷◌, ◌++◌, length, take, drop, get_or, Result, Ok, Err, take-append-drop}
-use Rattle.std.proofs.lemmas.List.{take_more}
+use Rattle.std.proofs.Common.{ap, sym, refl, ◌∙◌, ◌≡◌, List, [], ◌∷◌, ◌++◌, length, take, slice_get, Option, Some, Result, Ok, Err}
 use Rattle.pg_types.specs.declared.names.Locator.{Locator}
 use Rattle.wal_bodies.specs.declared.types.Rec.{Rec}
 use Rattle.wal_bodies.specs.declared.types.RecBlock.{RecBlock}
 use Rattle.heap_redo.specs.declared.fault.RedoFault.{RedoFault}
 use Rattle.heap_redo.specs.Redone.{View, Outcome, and_then, redone_at, redone}
-use Rattle.heap_redo.proofs.Versions.{drop-first}
 
 pub same-view : (a b : View) (x y : Result (Unit {0}) RedoFault) → (let o : Outcome = (a, x) in o) ≡ (b, y) → a ≡ b
 same-view a b x y e = ap (λ (o : Outcome). o.0) e
@@ -17,6 +15,10 @@ same-answer a b x y e = ap (λ (o : Outcome). o.1) e
 and_then-goes_on : (v w : View) (r : Result View RedoFault) (f g : View → Outcome) (o : Outcome) → ((u : View) → f u ≡ (w, Ok tt) → g u ≡ o) → and_then v r f ≡ (w, Ok tt) → and_then v r g ≡ o
 and_then-goes_on v w (Ok u) f g o h e = h u e
 and_then-goes_on v w (Err fault) f g o h e = let bad = same-answer v w (Err fault) (Ok tt) e in cc
+
+take-front : (xs ys : List RecBlock) → take (length xs) (xs ++ ys) ≡ xs
+take-front [] ys = refl
+take-front (x ∷ xs) ys = ap (λ l. x ∷ l) (take-front xs ys)
 
 module _ (rec : Rec) (known : List Locator) where
   -- the first blocks, and then the others
@@ -40,16 +42,28 @@ module _ (rec : Rec) (known : List Locator) where
   redone-none v = refl
 
   -- one block more
-  pub redone-more : (blocks : List RecBlock) (k : ℕ) (block : RecBlock) (old now next : View) → k < length blocks → block ≡ get_or blocks k block → redone rec known (take k blocks) old ≡ (now, Ok tt) → Ok next ≡ redone_at rec known block now → redone rec known (take (k + 1) blocks) old ≡ (next, Ok tt)
-  redone-more blocks k block old now next h here done e =
-      ap (λ xs. redone rec known xs old) (take_more blocks k block h ∙ ap (λ x. take k blocks ++ x ∷ []) (sym here))
-      ∙ redone-append (take k blocks) (block ∷ []) old now done
+  pub redone-more : (passed : List RecBlock) (block : RecBlock) (old now next : View) → redone rec known passed old ≡ (now, Ok tt) → Ok next ≡ redone_at rec known block now → redone rec known (passed ++ block ∷ []) old ≡ (next, Ok tt)
+  redone-more passed block old now next done e =
+      redone-append passed (block ∷ []) old now done
       ∙ redone-first block [] now next e
       ∙ redone-none next
 
   -- the record is refused at this block
-  pub redone-stops : (blocks : List RecBlock) (k : ℕ) (block : RecBlock) (old now : View) (fault : RedoFault) → k < length blocks → block ≡ get_or blocks k block → redone rec known (take k blocks) old ≡ (now, Ok tt) → Err fault ≡ redone_at rec known block now → redone rec known blocks old ≡ (now, Err fault)
-  redone-stops blocks k block old now fault h here done e =
-      ap (λ xs. redone rec known xs old) (sym (take-append-drop k blocks) ∙ ap (λ xs. take k blocks ++ xs) (drop-first blocks k block h here))
-      ∙ redone-append (take k blocks) (block ∷ drop (k + 1) blocks) old now done
-      ∙ redone-refused block (drop (k + 1) blocks) now fault e
+  pub redone-stops : (passed others blocks : List RecBlock) (block : RecBlock) (old now : View) (fault : RedoFault) → passed ++ block ∷ others ≡ blocks → redone rec known passed old ≡ (now, Ok tt) → Err fault ≡ redone_at rec known block now → redone rec known blocks old ≡ (now, Err fault)
+  redone-stops passed others blocks block old now fault whole done e =
+      ap (λ xs. redone rec known xs old) (sym whole)
+      ∙ redone-append passed (block ∷ others) old now done
+      ∙ redone-refused block others now fault e
+
+  -- the first blocks of the record
+  pub redone-front : (passed others blocks : List RecBlock) (old now : View) → passed ++ others ≡ blocks → redone rec known passed old ≡ (now, Ok tt) → redone rec known (take (length passed) blocks) old ≡ (now, Ok tt)
+  redone-front passed others blocks old now whole done =
+      ap (λ xs. redone rec known xs old) (ap (λ xs. take (length passed) xs) (sym whole) ∙ take-front passed others) ∙ done
+
+-- the block behind the first ones
+at-end : (passed others : List RecBlock) (block : RecBlock) → slice_get (passed ++ block ∷ others) (length passed) ≡ Some block
+at-end [] others block = refl
+at-end (first ∷ passed) others block = at-end passed others block
+
+pub next-there : (passed others blocks : List RecBlock) (block : RecBlock) → passed ++ block ∷ others ≡ blocks → slice_get blocks (length passed) ≡ Some block
+next-there passed others blocks block whole = ap (λ xs. slice_get xs (length passed)) (sym whole) ∙ at-end passed others block

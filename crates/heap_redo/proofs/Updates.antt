@@ -1,5 +1,5 @@
 -- An update, by the versions that it changes.
-use Rattle.std.proofs.Common.{arith, ap, sym, refl, ◌∙◌, ◌++◌, ◌∷◌, [], ◌+◌, ◌-◌, ◌≡◌, ◌≤◌, ◌<◌, inl, inr, nat_lt, nat_le, not, cond, get_or, ℕ, zero, suc, Bool, true, false, List, length, take, drop, Result, Ok, Err, length-append, take-append-drop, append-nil, ◌==◌}
+use Rattle.std.proofs.Common.{arith, ap, sym, refl, ◌∙◌, ◌++◌, ◌∷◌, [], ◌+◌, ◌-◌, ◌≡◌, ◌≤◌, ◌<◌, inl, inr, nat_lt, nat_le, not, cond, get_or, ℕ, zero, suc, Bool, true, false, List, length, take, drop, Option, Some, None, Result, Ok, Err, length-append, take-append-drop, append-nil, ◌==◌}
 use Rattle.std.proofs.lemmas.Bool.{cases_lt}
 use Rattle.std.proofs.lemmas.Bool.Decides.{nat_tests}
 use Rattle.std.proofs.lemmas.List.{take_all, length-take, drop_all}
@@ -12,6 +12,7 @@ use Rattle.heap_page.proofs.Overwrite.{joined-tuple}
 use Rattle.wal_bodies.specs.declared.types.NewTuple.{NewTuple}
 use Rattle.wal_bodies.specs.declared.types.Rec.{Rec}
 use Rattle.wal_bodies.specs.declared.types.RecBlock.{RecBlock}
+use Rattle.wal_bodies.specs.Stored.{first_of}
 use Rattle.heap_redo.specs.TupleHeads.{head_bytes}
 use Rattle.heap_redo.specs.After.{BlockRefusal, no_tuple, answered, put, tuple_of, joined, user_data, put_version, is_short, update_old, update_within, ◌>>=◌}
 use Rattle.heap_redo.proofs.Versions.{drop-first}
@@ -179,11 +180,15 @@ pub not-false : (b : Bool) → false ≡ not b → b ≡ true
 not-false true e = refl
 not-false false e = e
 
--- a list that was found to be empty, or not
-pub none-length : (read tuples : List NewTuple) → read ≡ tuples → true ≡ (length read == 0) → length tuples ≡ 0
-none-length read tuples e h = grind (arith, nat_tests)
+-- the first tuple of a list, which is there or not
+pub first-none : (tuples : List NewTuple) → None ≡ first_of tuples → length tuples ≡ 0
+first-none [] e = refl
+first-none (tuple ∷ tuples) e = cc
 
-pub some-length : (read tuples : List NewTuple) → read ≡ tuples → false ≡ (length read == 0) → 0 < length tuples
-some-length read tuples e h =
-    let f : false ≡ (length tuples == 0) = h ∙ ap (λ l. length l == 0) e in
-    grind (arith, nat_tests)
+pub first-there : (tuples : List NewTuple) (tuple : NewTuple) → Some tuple ≡ first_of tuples → 0 < length tuples
+first-there [] tuple e = cc
+first-there (first ∷ tuples) tuple e = omega arith
+
+pub first-is : (tuples : List NewTuple) (tuple : NewTuple) → Some tuple ≡ first_of tuples → tuple ≡ get_or tuples 0 tuple
+first-is [] tuple e = cc
+first-is (first ∷ tuples) tuple e = cc

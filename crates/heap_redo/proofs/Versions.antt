@@ -59,40 +59,25 @@ module _ (xid block : ℕ) where
   unfolding put_listed
   listed-cons_refused line lines tuple tuples items refusal done = rw done refl
 
-  listed-none : (lines : List ℕ) (tuples : List NewTuple) (items : List Item) → tuples ≡ [] → put_listed xid block lines tuples items ≡ Ok items
+  pub listed-none : (lines : List ℕ) (tuples : List NewTuple) (items : List Item) → tuples ≡ [] → put_listed xid block lines tuples items ≡ Ok items
   unfolding put_listed
   listed-none [] tuples items e = refl
   listed-none (line ∷ lines) [] items e = refl
   listed-none (line ∷ lines) (tuple ∷ tuples) items e = cc
 
-  listed-no_lines : (lines : List ℕ) (tuples : List NewTuple) (items : List Item) → lines ≡ [] → put_listed xid block lines tuples items ≡ Ok items
+  pub listed-no_lines : (lines : List ℕ) (tuples : List NewTuple) (items : List Item) → lines ≡ [] → put_listed xid block lines tuples items ≡ Ok items
   unfolding put_listed
   listed-no_lines [] tuples items e = refl
   listed-no_lines (line ∷ lines) tuples items e = cc
 
   -- the next line takes the next tuple
-  pub listed-next : (lines : List ℕ) (tuples : List NewTuple) (k line : ℕ) (tuple : NewTuple) (items next : List Item) → k < length lines → k < length tuples → line ≡ get_or lines k line → tuple ≡ get_or tuples k tuple → Ok next ≡ put line (tuple_of xid 0 block line tuple tuple.rest) items → put_listed xid block (drop (k + 1) lines) (drop (k + 1) tuples) next ≡ put_listed xid block (drop k lines) (drop k tuples) items
-  listed-next lines tuples k line tuple items next in_lines in_tuples l t done =
-      sym (
-      ap (λ ls. put_listed xid block ls (drop k tuples) items) (drop-first lines k line in_lines l)
-      ∙ ap (λ ts. put_listed xid block (line ∷ drop (k + 1) lines) ts items) (drop-first tuples k tuple in_tuples t)
-      ∙ listed-cons line (drop (k + 1) lines) tuple (drop (k + 1) tuples) items next (sym done)
-      )
+  pub listed-next : (lines more_lines : List ℕ) (tuples more : List NewTuple) (line : ℕ) (tuple : NewTuple) (items next : List Item) → lines ≡ line ∷ more_lines → tuples ≡ tuple ∷ more → Ok next ≡ put line (tuple_of xid 0 block line tuple tuple.rest) items → put_listed xid block more_lines more next ≡ put_listed xid block lines tuples items
+  listed-next lines more_lines tuples more line tuple items next l t done =
+      rw (l, t) (sym (listed-cons line more_lines tuple more items next (sym done)))
 
-  pub listed-refused : (lines : List ℕ) (tuples : List NewTuple) (k line : ℕ) (tuple : NewTuple) (items : List Item) (refusal : BlockRefusal) → k < length lines → k < length tuples → line ≡ get_or lines k line → tuple ≡ get_or tuples k tuple → Err refusal ≡ put line (tuple_of xid 0 block line tuple tuple.rest) items → Err refusal ≡ put_listed xid block (drop k lines) (drop k tuples) items
-  listed-refused lines tuples k line tuple items refusal in_lines in_tuples l t done =
-      sym (
-      ap (λ ls. put_listed xid block ls (drop k tuples) items) (drop-first lines k line in_lines l)
-      ∙ ap (λ ts. put_listed xid block (line ∷ drop (k + 1) lines) ts items) (drop-first tuples k tuple in_tuples t)
-      ∙ listed-cons_refused line (drop (k + 1) lines) tuple (drop (k + 1) tuples) items refusal (sym done)
-      )
-
-  pub listed-end : (lines : List ℕ) (tuples : List NewTuple) (k : ℕ) (items : List Item) → min (length lines) (length tuples) ≤ k → put_listed xid block (drop k lines) (drop k tuples) items ≡ Ok items
-  listed-end lines tuples k items h =
-      elim (cases_lt k (length lines)) [
-        | inl within ↦ listed-none (drop k lines) (drop k tuples) items (drop_all k tuples (omega arith))
-        | inr past ↦ listed-no_lines (drop k lines) (drop k tuples) items (drop_all k lines past)
-      ]
+  pub listed-refused : (lines more_lines : List ℕ) (tuples more : List NewTuple) (line : ℕ) (tuple : NewTuple) (items : List Item) (refusal : BlockRefusal) → lines ≡ line ∷ more_lines → tuples ≡ tuple ∷ more → Err refusal ≡ put line (tuple_of xid 0 block line tuple tuple.rest) items → Err refusal ≡ put_listed xid block lines tuples items
+  listed-refused lines more_lines tuples more line tuple items refusal l t done =
+      rw (l, t) (sym (listed-cons_refused line more_lines tuple more items refusal (sym done)))
 
 -- parts that are cut one after the other
 pub cut-parts : {X : Type 0} → (n : ℕ) (a b c d : List X) → take n (take n (take n (take n a ++ b) ++ c) ++ d) ≡ take n (a ++ b ++ c ++ d)

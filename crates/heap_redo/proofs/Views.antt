@@ -9,7 +9,7 @@ use Rattle.heap_page.specs.Page.{is_page, lsn_of, items_of}
 use Rattle.page_store.specs.declared.pool.PoolFault.{PoolFault}
 use Rattle.page_store.specs.declared.pool.PoolFault.TheVariants.{Missing, BadPage}
 use Rattle.page_store.specs.Content.{Blocks, is_at, with_block, or_zeros, filled_below, page_answer}
-use Rattle.wal_record.specs.declared.new.NewImage.{NewImage}
+use Rattle.wal_bodies.specs.declared.types.RecImage.{RecImage}
 use Rattle.wal_bodies.specs.declared.types.Rec.{Rec}
 use Rattle.wal_bodies.specs.declared.types.RecBlock.{RecBlock}
 use Rattle.heap_redo.specs.After.{BlockRefusal, applied}
@@ -139,7 +139,7 @@ module _ (rec : Rec) (block : RecBlock) (view : View) (tag : Tag) where
       ap ok (e ∙ grows anew not_left (seen (Some bytes))) ∙ ap (view_by rec block view tag) h
 
   -- a block was restored from its image
-  pub image-outcome : (image : NewImage) → applied block.image ≡ Some image → (next : View) (bytes : List ℕ) → next ≡ with_seen (grown view tag) tag (seen (Some bytes)) → (left : Result Seen BlockRefusal) → Ok (seen (Some bytes)) ≡ left → Ok next ≡ view_by rec block view tag left
+  pub image-outcome : (image : RecImage) → applied block.image ≡ Some image → (next : View) (bytes : List ℕ) → next ≡ with_seen (grown view tag) tag (seen (Some bytes)) → (left : Result Seen BlockRefusal) → Ok (seen (Some bytes)) ≡ left → Ok next ≡ view_by rec block view tag left
   image-outcome image restored = anew-outcome (image-anew rec block image restored) (image-not_left rec block image restored)
 
   -- a block is left

@@ -7,7 +7,7 @@ use Rattle.heap_page.specs.Page.{items_of, is_page}
 use Rattle.heap_page.specs.Put.{put_answer, set_head_answer, with_head, restored}
 use Rattle.heap_page.specs.declared.line.PageError.{PageError}
 use Rattle.heap_page.specs.declared.line.PageError.TheVariants.{Full, NoLine, BadPage}
-use Rattle.wal_record.specs.declared.new.NewImage.{NewImage}
+use Rattle.wal_bodies.specs.declared.types.RecImage.{RecImage}
 use Rattle.wal_bodies.specs.declared.types.NewTuple.{NewTuple}
 use Rattle.wal_bodies.specs.declared.types.RecBlock.{RecBlock}
 use Rattle.wal_bodies.specs.declared.types.Rec.{Rec}
@@ -141,27 +141,28 @@ changed rec block (Ended time xinfo xids) items = Ok items
 changed rec block (Running tops subs overflow next oldest latest xids) items = Ok items
 changed rec block (Insert line flags) items = put_listed rec.head.xid.0 block.block (line ∷ []) block.tuples items
 changed rec block (Delete xmax line bits flags) items =
-    change_head line (λ head. deleted xmax bits flags block.block line head) items
+    change_head line (λ head. deleted xmax.0 bits flags block.block line head) items
 changed rec block (Update old_xmax old_line old_bits flags new_xmax new_line) items =
-    update rec block old_xmax old_line old_bits new_xmax new_line (number_of 0 rec.blocks) (number_of 1 rec.blocks) items
+    update rec block old_xmax.0 old_line old_bits new_xmax.0 new_line (number_of 0 rec.blocks) (number_of 1 rec.blocks) items
 changed rec block (Confirm line) items = change_head line (λ head. pointing_to block.block line head) items
 changed rec block (Lock xmax line bits flags) items =
-    change_head line (λ head. locked xmax bits block.block line head) items
+    change_head line (λ head. locked xmax.0 bits block.block line head) items
 changed rec block (MultiInsert flags lines) items = put_listed rec.head.xid.0 block.block lines block.tuples items
-changed rec block (LockUpdated xmax line bits flags) items = change_head line (λ head. marked xmax bits head) items
+changed rec block (LockUpdated xmax line bits flags) items =
+    change_head line (λ head. marked xmax.0 bits head) items
 changed rec block Other items = Ok items
 
 -- the page of an image
-abbrev pub page_of_image : NewImage → List ℕ
+abbrev pub page_of_image : RecImage → List ℕ
 page_of_image image = restored image.hole_at image.bytes
 
 -- the block is restored from its image
-abbrev pub after_restore : NewImage → Result Content BlockRefusal
+abbrev pub after_restore : RecImage → Result Content BlockRefusal
 after_restore image =
     if is_page (page_of_image image) then Ok (page (items_of (page_of_image image))) else Err bad_page
 
 -- the image that replay restores
-abbrev pub applied : Option NewImage → Option NewImage
+abbrev pub applied : Option RecImage → Option RecImage
 applied None = None
 applied (Some image) = if image.apply then Some image else None
 
@@ -205,7 +206,7 @@ unfoldable pub after_change : Rec → RecBlock → Content → Result Content Bl
 after_change rec block before =
     if is_images rec.kind then Ok before else changed_page rec block (made_anew block.will_init before)
 
-abbrev pub after_image : Rec → RecBlock → Content → Option NewImage → Result Content BlockRefusal
+abbrev pub after_image : Rec → RecBlock → Content → Option RecImage → Result Content BlockRefusal
 after_image rec block before (Some image) = after_restore image
 after_image rec block before None = after_change rec block before
 

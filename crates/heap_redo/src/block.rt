@@ -9,7 +9,7 @@ use heap_page::HeapPage;
 use wal_bodies::{Rec, RecBlock, RecKind};
 
 /// Whether the block has an image that is restored.
-fn has_applied(block: &RecBlock) -> bool
+fn has_applied(block: &RecBlock<'_>) -> bool
     ensures { result ≡ is_some (applied block.now.image) }
 {
     match &block.image {
@@ -19,7 +19,7 @@ fn has_applied(block: &RecBlock) -> bool
 }
 
 /// Whether the record is one of images.
-fn is_images(rec: &Rec) -> bool
+fn is_images(rec: &Rec<'_>) -> bool
     ensures { result ≡ is_images rec.now.kind }
 {
     match &rec.kind {
@@ -29,21 +29,21 @@ fn is_images(rec: &Rec) -> bool
 }
 
 /// Whether the page is restored from an image or made anew.
-pub fn is_anew(block: &RecBlock) -> bool
+pub fn is_anew(block: &RecBlock<'_>) -> bool
     ensures { result ≡ is_anew block.now }
 {
     has_applied(block) || block.will_init
 }
 
 /// Whether a record of images leaves the block as it is.
-pub fn is_left(rec: &Rec, block: &RecBlock) -> bool
+pub fn is_left(rec: &Rec<'_>, block: &RecBlock<'_>) -> bool
     ensures { result ≡ is_left rec.now block.now }
 {
     is_images(rec) && !has_applied(block)
 }
 
 /// What a record leaves of a page without items that it makes anew.
-pub fn anew(page: &mut HeapPage, rec: &Rec, block: &RecBlock) -> Result<(), Refusal>
+pub fn anew(page: &mut HeapPage, rec: &Rec<'_>, block: &RecBlock<'_>) -> Result<(), Refusal>
     requires items { items_of page.old ≡ [] }
     requires plain { applied block.now.image ≡ None }
     requires anew { is_anew block.now ≡ true }
@@ -58,7 +58,7 @@ pub fn anew(page: &mut HeapPage, rec: &Rec, block: &RecBlock) -> Result<(), Refu
 
 /// What a record leaves of a block that is there, and that it does not make anew. A page that is refused
 /// stays as it is.
-pub fn changed(page: &mut HeapPage, rec: &Rec, block: &RecBlock) -> Result<(), Refusal>
+pub fn changed(page: &mut HeapPage, rec: &Rec<'_>, block: &RecBlock<'_>) -> Result<(), Refusal>
     requires anew { is_anew block.now ≡ false }
     requires left { is_left rec.now block.now ≡ false }
     requires block { block.now.block < 4294967295 }

@@ -13,25 +13,23 @@ use wal_bodies::{Rec, RecBlock, RecKind};
 /// What a record changes in the page of a block. Where it is refused the page stays as it is: what may
 /// be refused is tested before it writes, and only a multi-insert keeps the page, to put it back.
 #[tactic(auto, unfolding(crate::specs::After::changed))]
-pub fn change(page: &mut HeapPage, rec: &Rec, block: &RecBlock) -> Result<(), Refusal>
+pub fn change(page: &mut HeapPage, rec: &Rec<'_>, block: &RecBlock<'_>) -> Result<(), Refusal>
     ensures answer { outcome (items_of page.new) result
         ≡ changed rec.now block.now rec.now.kind (items_of page.old) }
     ensures err { OnErr result (page.new ≡ page.old) }
 {
     let number = block.block;
     let xid = rec.head.xid.0;
-    let tuples = block.tuples.as_slice();
+    let tuples = &block.tuples;
     match &rec.kind {
         RecKind::Insert { line, .. } => insert(page, xid, number, *line, tuples),
-        RecKind::MultiInsert { lines, .. } => {
-            put_listed(page, xid, number, lines.as_slice(), tuples)
-        }
+        RecKind::MultiInsert { lines, .. } => put_listed(page, xid, number, lines, tuples),
         RecKind::Delete {
             xmax,
             line,
             bits,
             flags,
-        } => delete(page, number, *line, *xmax, *bits, *flags),
+        } => delete(page, number, *line, xmax.0, *bits, *flags),
         RecKind::Update {
             old_xmax,
             old_line,
@@ -41,10 +39,10 @@ pub fn change(page: &mut HeapPage, rec: &Rec, block: &RecBlock) -> Result<(), Re
             ..
         } => {
             let versions = Versions {
-                old_xmax: *old_xmax,
+                old_xmax: old_xmax.0,
                 old_line: *old_line,
                 old_bits: *old_bits,
-                new_xmax: *new_xmax,
+                new_xmax: new_xmax.0,
                 new_line: *new_line,
                 is_hot: rec.head.info & 0x70 == 0x40,
             };
@@ -56,13 +54,13 @@ pub fn change(page: &mut HeapPage, rec: &Rec, block: &RecBlock) -> Result<(), Re
             line,
             bits,
             ..
-        } => lock(page, number, *line, *xmax, *bits),
+        } => lock(page, number, *line, xmax.0, *bits),
         RecKind::LockUpdated {
             xmax,
             line,
             bits,
             ..
-        } => lock_updated(page, *line, *xmax, *bits),
+        } => lock_updated(page, *line, xmax.0, *bits),
         _ => Ok(()),
     }
 }

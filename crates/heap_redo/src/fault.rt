@@ -51,7 +51,7 @@ pub fn at_line(error: PageError, line: u16) -> Refusal
 
 /// The fault of a record that is refused at this block.
 #[tactic(auto, unfolding(crate::specs::Refused::fault_at))]
-pub fn fault_at(rec: &Rec, block: &RecBlock, refusal: Refusal) -> RedoFault
+pub fn fault_at(rec: &Rec<'_>, block: &RecBlock<'_>, refusal: Refusal) -> RedoFault
     ensures { result ≡ fault_at rec.now block.now (refusal_of refusal) }
 {
     let lsn = rec.start;
@@ -77,7 +77,7 @@ pub fn fault_at(rec: &Rec, block: &RecBlock, refusal: Refusal) -> RedoFault
 }
 
 /// The fault of a record whose block the pool does not lend.
-pub fn pool_fault(rec: &Rec, block: &RecBlock, fault: PoolFault) -> RedoFault
+pub fn pool_fault(rec: &Rec<'_>, block: &RecBlock<'_>, fault: PoolFault) -> RedoFault
     ensures { result ≡ pool_fault_at rec.now block.now fault }
 {
     match fault {

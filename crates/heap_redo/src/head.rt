@@ -13,9 +13,9 @@ use pg_types::{u16_at, u32_at};
 /// The fields of a tuple's first 23 bytes (`HeapTupleHeaderData`, htup_details.h).
 #[derive(Clone, Copy)]
 pub struct Header {
-    /// Its low 32 bits are stored.
+    /// Its low 32 bits are stored, and those of `xmax`.
     pub xmin: u64,
-    pub xmax: u32,
+    pub xmax: u64,
     pub cid: u32,
     pub ctid_block: u32,
     pub ctid_line: u16,
@@ -62,7 +62,7 @@ impl Header {
     {
         Header {
             xmin: u64::from(u32_at(tuple, 0)),
-            xmax: u32_at(tuple, 4),
+            xmax: u64::from(u32_at(tuple, 4)),
             cid: u32_at(tuple, 8),
             ctid_block: u32::from(u16_at(tuple, 12)) * 65536 + u32::from(u16_at(tuple, 14)),
             ctid_line: u16_at(tuple, 16),
@@ -78,7 +78,7 @@ impl Header {
     {
         let mut bytes = [0u8; 23];
         put_u32(&mut bytes, 0, (self.xmin % 4_294_967_296) as u32);
-        put_u32(&mut bytes, 4, self.xmax);
+        put_u32(&mut bytes, 4, (self.xmax % 4_294_967_296) as u32);
         put_u32(&mut bytes, 8, self.cid);
         put_u16(&mut bytes, 12, (self.ctid_block / 65536) as u16);
         put_u16(&mut bytes, 14, (self.ctid_block % 65536) as u16);
@@ -90,7 +90,7 @@ impl Header {
     }
 
     /// A deleter or locker is marked.
-    pub fn marked(self, xmax: u32, bits: u8) -> Header
+    pub fn marked(self, xmax: u64, bits: u8) -> Header
         ensures { head_in result ≡ marked xmax bits (head_in self) }
     {
         Header {
@@ -136,7 +136,7 @@ impl Header {
     }
 
     /// A speculative insertion is taken back, if the flag says so: xmax is as it was before.
-    fn taken_back(self, flags: u8, before: u32) -> Header
+    fn taken_back(self, flags: u8, before: u64) -> Header
         ensures { head_in result ≡ taken_back flags before (head_in self) }
     {
         if has(flags, TAKEN_BACK) {
@@ -152,7 +152,7 @@ impl Header {
 
     /// The header of a tuple that is deleted where it stands, at this block and line.
     #[tactic(auto, unfolding(crate::specs::TupleHeads::deleted))]
-    pub fn deleted(self, xmax: u32, bits: u8, flags: u8, block: u32, line: u16) -> Header
+    pub fn deleted(self, xmax: u64, bits: u8, flags: u8, block: u32, line: u16) -> Header
         ensures { head_in result ≡ deleted xmax bits flags block line (head_in self) }
     {
         self.marked(xmax, bits)
@@ -163,7 +163,7 @@ impl Header {
 
     /// The header of an updated tuple, whose next version is at this place.
     #[tactic(auto, unfolding(crate::specs::TupleHeads::replaced))]
-    pub fn replaced(self, xmax: u32, bits: u8, is_hot: bool, block: u32, line: u16) -> Header
+    pub fn replaced(self, xmax: u64, bits: u8, is_hot: bool, block: u32, line: u16) -> Header
         ensures { head_in result ≡ replaced xmax bits is_hot block line (head_in self) }
     {
         self.marked(xmax, bits).hot(is_hot).pointing_to(block, line)
@@ -182,7 +182,7 @@ impl Header {
 
     /// The header of a tuple that is locked where it stands, at this block and line.
     #[tactic(auto, unfolding(crate::specs::TupleHeads::locked))]
-    pub fn locked(self, xmax: u32, bits: u8, block: u32, line: u16) -> Header
+    pub fn locked(self, xmax: u64, bits: u8, block: u32, line: u16) -> Header
         ensures { head_in result ≡ locked xmax bits block line (head_in self) }
     {
         self.marked(xmax, bits).unlinked_if_locked(block, line)

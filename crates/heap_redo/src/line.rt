@@ -51,7 +51,7 @@ pub fn delete(
     page: &mut HeapPage,
     block: u32,
     line: u16,
-    xmax: u32,
+    xmax: u64,
     bits: u8,
     flags: u8,
 ) -> Result<(), Refusal>
@@ -68,7 +68,7 @@ pub fn delete(
 pub fn update_old(
     page: &mut HeapPage,
     line: u16,
-    xmax: u32,
+    xmax: u64,
     bits: u8,
     is_hot: bool,
     new_block: u32,
@@ -91,7 +91,7 @@ pub fn update_old(
 pub fn check_old(
     page: &HeapPage,
     line: u16,
-    xmax: u32,
+    xmax: u64,
     bits: u8,
     is_hot: bool,
     new_block: u32,
@@ -121,7 +121,7 @@ pub fn confirm(page: &mut HeapPage, block: u32, line: u16) -> Result<(), Refusal
 
 /// The tuple of a line is locked.
 #[tactic(auto, unfolding(crate::specs::After::change_head))]
-pub fn lock(page: &mut HeapPage, block: u32, line: u16, xmax: u32, bits: u8) -> Result<(), Refusal>
+pub fn lock(page: &mut HeapPage, block: u32, line: u16, xmax: u64, bits: u8) -> Result<(), Refusal>
     ensures answer { outcome (items_of page.new) result
         ≡ change_head line (λ head. locked xmax bits block line head) (items_of page.old) }
     ensures err { OnErr result (page.new ≡ page.old) }
@@ -132,7 +132,7 @@ pub fn lock(page: &mut HeapPage, block: u32, line: u16, xmax: u32, bits: u8) -> 
 
 /// The tuple of a line, which has a newer version, is locked.
 #[tactic(auto, unfolding(crate::specs::After::change_head))]
-pub fn lock_updated(page: &mut HeapPage, line: u16, xmax: u32, bits: u8) -> Result<(), Refusal>
+pub fn lock_updated(page: &mut HeapPage, line: u16, xmax: u64, bits: u8) -> Result<(), Refusal>
     ensures answer { outcome (items_of page.new) result
         ≡ change_head line (λ head. marked xmax bits head) (items_of page.old) }
     ensures err { OnErr result (page.new ≡ page.old) }

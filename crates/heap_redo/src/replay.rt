@@ -10,8 +10,8 @@ use heap_page::{HeapPage, shows_page};
 use page_store::Pool;
 use pg_types::{Locator, Tag};
 use table_schema::Tables;
-use wal_bodies::{Rec, RecBlock};
-use wal_record::{ImageView, NewImage};
+use wal_bodies::{Rec, RecBlock, RecImage};
+use wal_record::ImageView;
 
 /// The number of the table that has this file.
 fn table_of(known: &[Locator], locator: Locator) -> Option<usize>
@@ -22,7 +22,7 @@ fn table_of(known: &[Locator], locator: Locator) -> Option<usize>
 }
 
 /// Changes the page of a block, or answers why not.
-fn change_page(page: &mut HeapPage, rec: &Rec, block: &RecBlock) -> Result<(), RedoFault>
+fn change_page(page: &mut HeapPage, rec: &Rec<'_>, block: &RecBlock<'_>) -> Result<(), RedoFault>
     requires anew { is_anew block.now ≡ false }
     requires left { is_left rec.now block.now ≡ false }
     requires block { block.now.block < 4294967295 }
@@ -36,7 +36,7 @@ fn change_page(page: &mut HeapPage, rec: &Rec, block: &RecBlock) -> Result<(), R
 }
 
 /// Changes a block that is there.
-fn change(pool: &mut Pool, tag: Tag, rec: &Rec, block: &RecBlock) -> Result<(), RedoFault>
+fn change(pool: &mut Pool, tag: Tag, rec: &Rec<'_>, block: &RecBlock<'_>) -> Result<(), RedoFault>
     requires table { tag.table < table_count pool.old }
     requires tag { tag.block ≡ block.now.block }
     requires anew { is_anew block.now ≡ false }
@@ -58,9 +58,9 @@ fn change(pool: &mut Pool, tag: Tag, rec: &Rec, block: &RecBlock) -> Result<(), 
 fn restore(
     pool: &mut Pool,
     tag: Tag,
-    rec: &Rec,
-    block: &RecBlock,
-    image: &NewImage,
+    rec: &Rec<'_>,
+    block: &RecBlock<'_>,
+    image: &RecImage<'_>,
 ) -> Result<(), RedoFault>
     requires table { tag.table < table_count pool.old }
     requires tag { tag.block ≡ block.now.block }
@@ -90,7 +90,7 @@ fn restore(
 }
 
 /// Makes a block anew by the record's change of a page without items, whatever stands there.
-fn rebuild(pool: &mut Pool, tag: Tag, rec: &Rec, block: &RecBlock) -> Result<(), RedoFault>
+fn rebuild(pool: &mut Pool, tag: Tag, rec: &Rec<'_>, block: &RecBlock<'_>) -> Result<(), RedoFault>
     requires table { tag.table < table_count pool.old }
     requires tag { tag.block ≡ block.now.block }
     requires plain { applied block.now.image ≡ None }
@@ -116,7 +116,7 @@ fn rebuild(pool: &mut Pool, tag: Tag, rec: &Rec, block: &RecBlock) -> Result<(),
 }
 
 /// Makes a block anew, whatever stands there: as its image shows, if one is restored.
-fn remake(pool: &mut Pool, tag: Tag, rec: &Rec, block: &RecBlock) -> Result<(), RedoFault>
+fn remake(pool: &mut Pool, tag: Tag, rec: &Rec<'_>, block: &RecBlock<'_>) -> Result<(), RedoFault>
     requires table { tag.table < table_count pool.old }
     requires tag { tag.block ≡ block.now.block }
     requires anew { is_anew block.now ≡ true }
@@ -138,8 +138,8 @@ fn remake(pool: &mut Pool, tag: Tag, rec: &Rec, block: &RecBlock) -> Result<(), 
 /// One block of a record. A block of another table is passed over.
 fn redo_block(
     pool: &mut Pool,
-    rec: &Rec,
-    block: &RecBlock,
+    rec: &Rec<'_>,
+    block: &RecBlock<'_>,
     known: &[Locator],
 ) -> Result<(), RedoFault>
     requires tables { length known.now ≤ table_count pool.old }
@@ -170,14 +170,14 @@ fn redo_block(
 
 /// Applies a record to the blocks of the tables of which `known` has the files, in the order of their
 /// numbers.
-fn redo_blocks(rec: &Rec, known: &[Locator], pool: &mut Pool) -> Result<(), RedoFault>
+fn redo_blocks(rec: &Rec<'_>, known: &[Locator], pool: &mut Pool) -> Result<(), RedoFault>
     requires tables { length known.now ≤ table_count pool.old }
     requires few { length known.now < 2 ^ 16 }
     ensures answer { Stands rec.now known.now (view_of (content pool.old)) (view_of (content pool.new)) result }
     ensures tables { table_count pool.new ≡ table_count pool.old }
 {
-    for block in rec.blocks.as_slice() {
-        redo_block(pool, rec, block, known)?;
+    for block in rec.blocks.again() {
+        redo_block(pool, rec, &block, known)?;
     }
     Ok(())
 }
@@ -193,7 +193,7 @@ fn redo_blocks(rec: &Rec, known: &[Locator], pool: &mut Pool) -> Result<(), Redo
 /// record or after it, the blocks up to one after and the others before, and the record is refused again.
 /// After `Memory` too, and the block at which it came is not refused; a repeated call then leaves what one
 /// call leaves.
-pub fn redo(rec: &Rec, tables: &Tables, pool: &mut Pool) -> Result<(), RedoFault>
+pub fn redo(rec: &Rec<'_>, tables: &Tables, pool: &mut Pool) -> Result<(), RedoFault>
     requires tables { length tables.now.tables ≤ table_count pool.old }
     ensures answer { Stands rec.now (locators tables.now) (view_of (content pool.old)) (view_of (content pool.new)) result }
     ensures tables { table_count pool.new ≡ table_count pool.old }

@@ -10,15 +10,15 @@ use crate::fault::Refusal;
 use crate::line::{check_old, update_old};
 use crate::version::{check_new, join, put_new, user_data};
 use heap_page::HeapPage;
-use wal_bodies::{NewTuple, Rec, RecBlock};
+use wal_bodies::{NewTuple, Rec, RecBlock, RecBlocks};
 
 /// What an update says of its two versions.
 #[derive(Clone, Copy)]
 pub struct Versions {
-    pub old_xmax: u32,
+    pub old_xmax: u64,
     pub old_line: u16,
     pub old_bits: u8,
-    pub new_xmax: u32,
+    pub new_xmax: u64,
     pub new_line: u16,
     /// The new version is heap-only.
     pub is_hot: bool,
@@ -26,7 +26,7 @@ pub struct Versions {
 
 /// What stands behind the header of a new version of the tuple of a line, as far as it fits, and its
 /// length. `None` exactly where that tuple's values are shorter than the parts that are used of them.
-fn joined(page: &HeapPage, line: u16, tuple: &NewTuple, bytes: &mut [u8]) -> Option<usize>
+fn joined(page: &HeapPage, line: u16, tuple: &NewTuple<'_>, bytes: &mut [u8]) -> Option<usize>
     ensures short { let old = user_data (tuple_in (numbered (items_of page.now) line)) in
         is_some result ≡ not (nat_lt (length old) (tuple.now.prefix + tuple.now.suffix)) }
     ensures taken { let old = user_data (tuple_in (numbered (items_of page.now) line)) in
@@ -42,7 +42,7 @@ fn joined(page: &HeapPage, line: u16, tuple: &NewTuple, bytes: &mut [u8]) -> Opt
 }
 
 /// At most how many bytes stand behind the header of a new version.
-fn joined_bound(tuple: &NewTuple) -> usize
+fn joined_bound(tuple: &NewTuple<'_>) -> usize
     ensures { result ≡ length tuple.now.rest + (tuple.now.prefix + tuple.now.suffix) }
 {
     tuple.rest.as_slice().len() + (tuple.prefix as usize + tuple.suffix as usize)
@@ -51,8 +51,8 @@ fn joined_bound(tuple: &NewTuple) -> usize
 /// An update whose both versions are in one block. Both changes are tested before the first.
 fn update_within(
     page: &mut HeapPage,
-    rec: &Rec,
-    block: &RecBlock,
+    rec: &Rec<'_>,
+    block: &RecBlock<'_>,
     versions: Versions,
 ) -> Result<(), Refusal>
     ensures answer { outcome (items_of page.new) result
@@ -60,28 +60,26 @@ fn update_within(
         versions.new_xmax versions.new_line (items_of page.old) }
     ensures err { OnErr result (page.new ≡ page.old) }
 {
-    let tuples = block.tuples.as_slice();
-    if tuples.is_empty() {
+    let Some(tuple) = block.tuples.first() else {
         return mark_old(page, versions, block.block);
-    }
-    let tuple = &tuples[0];
+    };
     check_mark(page, versions, block.block)?;
-    if joined_bound(tuple) <= 512 {
+    if joined_bound(&tuple) <= 512 {
         let mut bytes = [0; 512];
-        return replace(page, rec, block, versions, tuple, &mut bytes);
+        return replace(page, rec, block, versions, &tuple, &mut bytes);
     }
     let mut bytes = [0; 8192];
-    replace(page, rec, block, versions, tuple, &mut bytes)
+    replace(page, rec, block, versions, &tuple, &mut bytes)
 }
 
 /// The old version, which may be marked, is replaced by the new one. `bytes` has the room for what stands
 /// behind its header, or for a whole page of it.
 fn replace(
     page: &mut HeapPage,
-    rec: &Rec,
-    block: &RecBlock,
+    rec: &Rec<'_>,
+    block: &RecBlock<'_>,
     versions: Versions,
-    tuple: &NewTuple,
+    tuple: &NewTuple<'_>,
     bytes: &mut [u8],
 ) -> Result<(), Refusal>
     requires some { 0 < length block.now.tuples }
@@ -147,35 +145,33 @@ fn mark_old(page: &mut HeapPage, versions: Versions, new_block: u32) -> Result<(
 /// The new version, if the record has it, goes to its line of a block without the old one.
 fn put_version(
     page: &mut HeapPage,
-    rec: &Rec,
-    block: &RecBlock,
+    rec: &Rec<'_>,
+    block: &RecBlock<'_>,
     versions: Versions,
 ) -> Result<(), Refusal>
     ensures answer { outcome (items_of page.new) result
         ≡ put_version rec.now.head.xid.0 versions.new_xmax block.now.block versions.new_line block.now.tuples [] (items_of page.old) }
     ensures err { OnErr result (page.new ≡ page.old) }
 {
-    let tuples = block.tuples.as_slice();
-    if tuples.is_empty() {
+    let Some(tuple) = block.tuples.first() else {
         return Ok(());
-    }
-    let tuple = &tuples[0];
+    };
     put_new(
         page,
         rec.head.xid.0,
         versions.new_xmax,
         block.block,
         versions.new_line,
-        tuple,
+        &tuple,
         tuple.rest.as_slice(),
     )
 }
 
 /// The number of the block with this id, if the record has one.
-fn number_of(id: u8, blocks: &[RecBlock]) -> Option<u32>
+fn number_of(id: u8, blocks: &RecBlocks<'_>) -> Option<u32>
     ensures { result ≡ number_of id blocks.now }
 {
-    for block in blocks {
+    for block in blocks.again() {
         if block.id == id {
             return Some(block.block);
         }
@@ -187,8 +183,8 @@ fn number_of(id: u8, blocks: &[RecBlock]) -> Option<u32>
 #[tactic(auto, unfolding(crate::specs::After::update))]
 pub fn update(
     page: &mut HeapPage,
-    rec: &Rec,
-    block: &RecBlock,
+    rec: &Rec<'_>,
+    block: &RecBlock<'_>,
     versions: Versions,
 ) -> Result<(), Refusal>
     requires { versions.is_hot ≡ (bit_and rec.now.head.info 112 == 64) }
@@ -197,7 +193,7 @@ pub fn update(
         (number_of 0 rec.now.blocks) (number_of 1 rec.now.blocks) (items_of page.old) }
     ensures err { OnErr result (page.new ≡ page.old) }
 {
-    let blocks = rec.blocks.as_slice();
+    let blocks = &rec.blocks;
     let Some(new_block) = number_of(0, blocks) else {
         return Ok(());
     };

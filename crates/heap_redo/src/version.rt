@@ -10,11 +10,11 @@ use crate::fault::Refusal;
 use crate::head::Header;
 use crate::line::{check_tuple, put_tuple};
 use heap_page::{HeapPage, Item};
-use wal_bodies::NewTuple;
+use wal_bodies::{Lines, NewTuple, NewTuples};
 
 /// The header of a tuple that this transaction puts at this place, with this xmax.
 #[tactic(auto, unfolding(crate::specs::After::tuple_of))]
-fn new_header(xid: u64, xmax: u32, block: u32, line: u16, tuple: &NewTuple) -> Header
+fn new_header(xid: u64, xmax: u64, block: u32, line: u16, tuple: &NewTuple<'_>) -> Header
     ensures { (rest : List ℕ) → head_bytes (head_in result) ++ rest ≡ tuple_of xid xmax block line tuple.now rest }
 {
     Header {
@@ -33,10 +33,10 @@ fn new_header(xid: u64, xmax: u32, block: u32, line: u16, tuple: &NewTuple) -> H
 pub fn put_new(
     page: &mut HeapPage,
     xid: u64,
-    xmax: u32,
+    xmax: u64,
     block: u32,
     line: u16,
-    tuple: &NewTuple,
+    tuple: &NewTuple<'_>,
     rest: &[u8],
 ) -> Result<(), Refusal>
     ensures answer { outcome (items_of page.new) result
@@ -50,10 +50,10 @@ pub fn put_new(
 pub fn check_new(
     page: &HeapPage,
     xid: u64,
-    xmax: u32,
+    xmax: u64,
     block: u32,
     line: u16,
-    tuple: &NewTuple,
+    tuple: &NewTuple<'_>,
     rest: &[u8],
 ) -> Result<(), Refusal>
     ensures { let new = tuple_of xid xmax block line tuple.now rest.now in
@@ -68,17 +68,16 @@ pub fn insert(
     xid: u64,
     block: u32,
     line: u16,
-    tuples: &[NewTuple],
+    tuples: &NewTuples<'_>,
 ) -> Result<(), Refusal>
     ensures answer { outcome (items_of page.new) result
         ≡ put_listed xid block (line ∷ []) tuples.now (items_of page.old) }
     ensures err { OnErr result (page.new ≡ page.old) }
 {
-    if tuples.is_empty() {
+    let Some(tuple) = tuples.first() else {
         return Ok(());
-    }
-    let tuple = &tuples[0];
-    put_new(page, xid, 0, block, line, tuple, tuple.rest.as_slice())
+    };
+    put_new(page, xid, 0, block, line, &tuple, tuple.rest.as_slice())
 }
 
 /// Tuples go to these lines, one after the other. A refused page has those before the refused one.
@@ -86,16 +85,18 @@ fn put_each(
     page: &mut HeapPage,
     xid: u64,
     block: u32,
-    lines: &[u16],
-    tuples: &[NewTuple],
+    lines: &Lines<'_>,
+    tuples: &NewTuples<'_>,
 ) -> Result<(), Refusal>
     ensures { outcome (items_of page.new) result
         ≡ put_listed xid block lines.now tuples.now (items_of page.old) }
 {
-    let count = lines.len().min(tuples.len());
-    for k in 0..count {
-        let tuple = &tuples[k];
-        put_new(page, xid, 0, block, lines[k], tuple, tuple.rest.as_slice())?;
+    let mut rest = tuples.again();
+    for line in lines.again() {
+        let Some(tuple) = rest.next() else {
+            return Ok(());
+        };
+        put_new(page, xid, 0, block, line, &tuple, tuple.rest.as_slice())?;
     }
     Ok(())
 }
@@ -106,8 +107,8 @@ pub fn put_listed(
     page: &mut HeapPage,
     xid: u64,
     block: u32,
-    lines: &[u16],
-    tuples: &[NewTuple],
+    lines: &Lines<'_>,
+    tuples: &NewTuples<'_>,
 ) -> Result<(), Refusal>
     ensures answer { outcome (items_of page.new) result
         ≡ put_listed xid block lines.now tuples.now (items_of page.old) }
@@ -137,7 +138,7 @@ fn append(bytes: &mut [u8], at: usize, part: &[u8]) -> usize
 
 /// What stands behind the header of a new version of a tuple with these values, as far as it fits.
 #[tactic(auto, unfolding(crate::specs::After::joined))]
-pub fn join(bytes: &mut [u8], tuple: &NewTuple, old: &[u8]) -> usize
+pub fn join(bytes: &mut [u8], tuple: &NewTuple<'_>, old: &[u8]) -> usize
     requires { tuple.now.prefix + tuple.now.suffix ≤ length old.now }
     ensures taken { take result bytes.new ≡ take (length bytes.old) (joined tuple.now old.now) }
     ensures within { result ≤ length bytes.old }

@@ -14,7 +14,7 @@ use Rattle.wal_bodies.specs.declared.types.NewTuple.{NewTuple}
 use Rattle.wal_bodies.specs.declared.types.RecBlock.{RecBlock}
 use Rattle.wal_bodies.specs.declared.types.RecKind.{RecKind}
 use Rattle.wal_bodies.specs.declared.types.RecKind.TheVariants.{Checkpoint, BackupEnd, Parameters, FullPageWrites, Images, Overwrite, Ended, Running, Insert, Delete, Update, Confirm, Lock, MultiInsert, LockUpdated, Other}
-use Rattle.wal_bodies.specs.Fields.{◌>>=◌, if_main, main_block, needed, number_from}
+use Rattle.wal_bodies.specs.Fields.{◌>>=◌, xid_at, if_main, main_block, needed, number_from}
 use Rattle.wal_bodies.specs.Kinds.{backup_end, checkpoint, database_kind, ended, kind_of, later, overwrite, page_writes, parameters, parts_by, running, standby_kind, time_from, xact_kind, xinfo_from, xlog_kind}
 use Rattle.wal_bodies.specs.HeapKinds.{confirm, delete, heap2_kind, heap_kind, in_place, insert, lock, lock_updated, multi_insert, multi_insert_of, update}
 use Rattle.wal_bodies.specs.Tuples.{in_data, insert_tuples, inserted, is_applied, length_from, listed_at, listed_from, even_from, multi_tuples, no_tuples, replaced, tuple_with, tuples_of, update_tuples, updated}
@@ -77,19 +77,19 @@ plain : {E : Type 0} (kind : RecKind) → is_plain kind ≡ true → Has {E = E}
 plain kind e = given KindFits kind (plain-fits kind e)
 
 deleted : {E : Type 0} (main : List ℕ) → AreBytes main
-    → Has {E = E} KindFits (Ok (Delete (number_at 4 main 0) (number_at 2 main 4) (slice_index main 6) (slice_index main 7)))
+    → Has {E = E} KindFits (Ok (Delete (xid_at main 0) (number_at 2 main 4) (slice_index main 6) (slice_index main 7)))
 deleted main all = record { has = (four-fits main 0 all, one-fits main 6 all) }
 
 replaced_by : {E : Type 0} (main : List ℕ) → AreBytes main
-    → Has {E = E} KindFits (Ok (Update (number_at 4 main 0) (number_at 2 main 4) (slice_index main 6) (slice_index main 7) (number_at 4 main 8) (number_at 2 main 12)))
+    → Has {E = E} KindFits (Ok (Update (xid_at main 0) (number_at 2 main 4) (slice_index main 6) (slice_index main 7) (xid_at main 8) (number_at 2 main 12)))
 replaced_by main all = record { has = (four-fits main 0 all, (one-fits main 6 all, four-fits main 8 all)) }
 
 locked : {E : Type 0} (main : List ℕ) → AreBytes main
-    → Has {E = E} KindFits (Ok (Lock (number_at 4 main 0) (number_at 2 main 4) (slice_index main 6) (slice_index main 7)))
+    → Has {E = E} KindFits (Ok (Lock (xid_at main 0) (number_at 2 main 4) (slice_index main 6) (slice_index main 7)))
 locked main all = record { has = (four-fits main 0 all, one-fits main 6 all) }
 
 locked_too : {E : Type 0} (main : List ℕ) → AreBytes main
-    → Has {E = E} KindFits (Ok (LockUpdated (number_at 4 main 0) (number_at 2 main 4) (slice_index main 6) (slice_index main 7)))
+    → Has {E = E} KindFits (Ok (LockUpdated (xid_at main 0) (number_at 2 main 4) (slice_index main 6) (slice_index main 7)))
 locked_too main all = record { has = (four-fits main 0 all, one-fits main 6 all) }
 
 checkpoint-fits : (main : List ℕ) → Has KindFits (checkpoint main)

@@ -3,7 +3,7 @@
 -- Sources: xlogrecord.h (XLogRecord, XLogRecordBlockHeader), heapam_xlog.h (xl_heap_header, xl_heap_delete,
 -- xl_heap_update, xl_heap_lock, xl_heap_lock_updated).
 use Rattle.std.specs.Prelude.{◌<◌, ◌^◌, All, Option, Some, None}
-use Rattle.wal_record.specs.declared.new.NewImage.{NewImage}
+use Rattle.wal_bodies.specs.declared.types.RecImage.{RecImage}
 use Rattle.wal_bodies.specs.declared.types.NewTuple.{NewTuple}
 use Rattle.wal_bodies.specs.declared.types.RecBlock.{RecBlock}
 use Rattle.wal_bodies.specs.declared.types.Rec.{Rec}
@@ -18,7 +18,7 @@ pub record TupleFits (tuple : NewTuple) : Type 0 where
   pub hoff : tuple.hoff < 2 ^ 8
   pub rest : AreBytes tuple.rest
 
-abbrev pub ImageFits : Option NewImage → Type 0
+abbrev pub ImageFits : Option RecImage → Type 0
 ImageFits None = Unit {0}
 ImageFits (Some image) = AreBytes image.bytes
 
@@ -30,10 +30,10 @@ pub record BlockFits (block : RecBlock) : Type 0 where
 
 -- an xmax of four bytes (TransactionId), and its bits in one
 abbrev pub KindFits : RecKind → Type 0
-KindFits (Delete xmax line bits flags) = (xmax < 2 ^ 32) × (bits < 2 ^ 8)
-KindFits (Update old_xmax old_line old_bits flags new_xmax new_line) = (old_xmax < 2 ^ 32) × ((old_bits < 2 ^ 8) × (new_xmax < 2 ^ 32))
-KindFits (Lock xmax line bits flags) = (xmax < 2 ^ 32) × (bits < 2 ^ 8)
-KindFits (LockUpdated xmax line bits flags) = (xmax < 2 ^ 32) × (bits < 2 ^ 8)
+KindFits (Delete xmax line bits flags) = (xmax.0 < 2 ^ 32) × (bits < 2 ^ 8)
+KindFits (Update old_xmax old_line old_bits flags new_xmax new_line) = (old_xmax.0 < 2 ^ 32) × ((old_bits < 2 ^ 8) × (new_xmax.0 < 2 ^ 32))
+KindFits (Lock xmax line bits flags) = (xmax.0 < 2 ^ 32) × (bits < 2 ^ 8)
+KindFits (LockUpdated xmax line bits flags) = (xmax.0 < 2 ^ 32) × (bits < 2 ^ 8)
 KindFits _ = Unit {0}
 
 pub record RecordFits (rec : Rec) : Type 0 where

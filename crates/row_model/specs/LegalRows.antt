@@ -5,7 +5,7 @@
 use Rattle.std.specs.Prelude.{◌≡◌, ◌≢◌, ◌⊎◌, ℕ, ◌<◌, Bool, true, false, ◌==◌, not, ◌&&◌, ◌||◌, nat_lt, List, [], ◌∷◌, All, Option, Some, None, Ok, if◌then◌else◌}
 use Rattle.std.specs.List.{list_all, list_any}
 use Rattle.pg_types.specs.declared.names.Locator.{Locator}
-use Rattle.wal_record.specs.declared.new.NewImage.{NewImage}
+use Rattle.wal_bodies.specs.declared.types.RecImage.{RecImage}
 use Rattle.wal_record.specs.declared.types.RecordHead.{RecordHead}
 use Rattle.wal_bodies.specs.declared.types.RecBlock.{RecBlock}
 use Rattle.wal_bodies.specs.declared.types.Rec.{Rec}
@@ -29,7 +29,7 @@ use Rattle.row_model.specs.LegalSteps.{BirthStep, DeleterStep, KeepsTo, Multixac
 
 -- an image that is restored shows the versions after the record, a tuple exactly where there is one; its marks are true
 -- before it. So one of a block inside the table brings no version of its own
-abbrev pub ImageRule : LogOrigin → List Rec → List Version → ℕ → Option NewImage → Type 0
+abbrev pub ImageRule : LogOrigin → List Rec → List Version → ℕ → Option RecImage → Type 0
 ImageRule o older after block None = Unit {0}
 ImageRule o older after block (Some image) = ShowsBlock o older after block (items_in image)
 

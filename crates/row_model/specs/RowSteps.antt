@@ -3,7 +3,7 @@
 -- XLogTruncateRelation).
 use Rattle.std.specs.Prelude.{ℕ, ◌+◌, ◌==◌, Bool, true, false, not, ◌&&◌, ◌||◌, nat_le, max, min, List, [], ◌∷◌, ◌++◌, map, slice_get, Option, Some, None, Result, Ok, Err, if◌then◌else◌}
 use Rattle.pg_types.specs.declared.names.Locator.{Locator}
-use Rattle.wal_record.specs.declared.new.NewImage.{NewImage}
+use Rattle.wal_bodies.specs.declared.types.RecImage.{RecImage}
 use Rattle.wal_bodies.specs.declared.types.NewTuple.{NewTuple}
 use Rattle.wal_bodies.specs.declared.types.RecBlock.{RecBlock}
 use Rattle.wal_bodies.specs.declared.types.Rec.{Rec}
@@ -32,7 +32,7 @@ deleter_of_mark xmax bits =
     else DeletedBy (record { 0 = xmax })
 
 -- the items that an image shows
-abbrev pub items_in : NewImage → List Item
+abbrev pub items_in : RecImage → List Item
 items_in image = items_of (page_of_image image)
 
 -- tuples that the record writes are born at these lines
@@ -47,7 +47,7 @@ unfoldable pub births_shown : ℕ → List Item → List ℕ → List RowStep
 births_shown block items lines = map (λ line. Born false block line (tuple_in (numbered items line))) lines
 
 -- tuples are born at these lines, read from the block's image where that is restored
-unfoldable pub births : Rec → RecBlock → Option NewImage → List ℕ → List RowStep
+unfoldable pub births : Rec → RecBlock → Option RecImage → List ℕ → List RowStep
 births rec block None lines = births_written rec.head.xid.0 block.block lines block.tuples
 births rec block (Some image) lines = births_shown block.block (items_in image) lines
 
@@ -57,7 +57,7 @@ version_written rec block xmax line old [] = []
 version_written rec block xmax line old (tuple ∷ tuples) =
     Born false block.block line (tuple_of rec.head.xid.0 xmax block.block line tuple (joined tuple old)) ∷ []
 
-unfoldable pub version_put : Rec → RecBlock → Option NewImage → ℕ → ℕ → List ℕ → List RowStep
+unfoldable pub version_put : Rec → RecBlock → Option RecImage → ℕ → ℕ → List ℕ → List RowStep
 version_put rec block None xmax line old = version_written rec block xmax line old block.tuples
 version_put rec block (Some image) xmax line old = births_shown block.block (items_in image) (line ∷ [])
 
@@ -84,11 +84,11 @@ unfoldable pub own_steps : Rec → RecBlock → RecKind → List Version → Lis
 own_steps rec block (Insert line flags) vs = births rec block (applied block.image) (line ∷ [])
 own_steps rec block (MultiInsert flags lines) vs = births rec block (applied block.image) lines
 own_steps rec block (Delete xmax line bits flags) vs =
-    if has flags 0x08 then Undone block.block line ∷ [] else Deleter block.block line (deleter_of_mark xmax bits) ∷ []
+    if has flags 0x08 then Undone block.block line ∷ [] else Deleter block.block line (deleter_of_mark xmax.0 bits) ∷ []
 own_steps rec block (Update old_xmax old_line old_bits flags new_xmax new_line) vs =
-    update_steps rec block old_xmax old_line old_bits new_xmax new_line (number_of 0 rec.blocks) (number_of 1 rec.blocks) vs
-own_steps rec block (Lock xmax line bits flags) vs = Deleter block.block line (deleter_of_mark xmax bits) ∷ []
-own_steps rec block (LockUpdated xmax line bits flags) vs = Deleter block.block line (deleter_of_mark xmax bits) ∷ []
+    update_steps rec block old_xmax.0 old_line old_bits new_xmax.0 new_line (number_of 0 rec.blocks) (number_of 1 rec.blocks) vs
+own_steps rec block (Lock xmax line bits flags) vs = Deleter block.block line (deleter_of_mark xmax.0 bits) ∷ []
+own_steps rec block (LockUpdated xmax line bits flags) vs = Deleter block.block line (deleter_of_mark xmax.0 bits) ∷ []
 own_steps rec block _ vs = []
 
 -- whether a record of this kind puts tuples of its own into the block
@@ -108,7 +108,7 @@ births_of_items block line (dead ∷ items) = births_of_items block (line + 1) i
 
 -- a page that was written whole: the image of a block at or past the table's end, in a record that puts no tuple of
 -- its own there (log_newpage, xloginsert.c)
-unfoldable pub whole_steps : RecBlock → RecKind → Option NewImage → ℕ → List RowStep
+unfoldable pub whole_steps : RecBlock → RecKind → Option RecImage → ℕ → List RowStep
 whole_steps block kind None count = []
 whole_steps block kind (Some image) count =
     if not (puts_tuples block kind) && nat_le count block.block then births_of_items block.block 1 (items_in image) else []

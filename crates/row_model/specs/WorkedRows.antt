@@ -103,7 +103,7 @@ commit_of_700 = worked_record 0x2000150 0x2000178 700 1 0x00 (Ended (pos 0) 0 []
 -- heap-only (0x40), with a prefix and a suffix from the old version (0x60)
 abbrev pub update_by_701 : Rec
 update_by_701 =
-    worked_record 0x2000178 0x20001C8 701 10 0x40 (Update 701 1 0 0x60 0 2) (worked_block false second_tuple)
+    worked_record 0x2000178 0x20001C8 701 10 0x40 (Update (record { 0 = 701 }) 1 0 0x60 (record { 0 = 0 }) 2) (worked_block false second_tuple)
 
 abbrev pub commit_of_701 : Rec
 commit_of_701 = worked_record 0x20001C8 0x20001F0 701 1 0x00 (Ended (pos 0) 0 []) []

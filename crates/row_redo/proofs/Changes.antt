@@ -5,7 +5,7 @@ use Rattle.std.proofs.lemmas.List.Elements.{All-append, All-drop, All-nil, All-t
 use Rattle.heap_tuple.specs.Tuple.{IsTuple, hoff_of}
 use Rattle.heap_page.specs.Item.{Item, normal, numbered, is_normal, tuple_in}
 use Rattle.row_model.specs.Origins.{LogOrigin}
-use Rattle.wal_record.specs.declared.new.NewImage.{NewImage}
+use Rattle.wal_bodies.specs.declared.types.RecImage.{RecImage}
 use Rattle.wal_bodies.specs.declared.types.NewTuple.{NewTuple}
 use Rattle.wal_bodies.specs.declared.types.RecBlock.{RecBlock}
 use Rattle.wal_bodies.specs.declared.types.Rec.{Rec}
@@ -157,12 +157,12 @@ along from log vs block after steps others e done rule =
     subst (λ (l : List RowStep). Shown from log (with_steps vs l) block after) (sym e) (done (subst (StepsRule from log vs) e rule))
 
 -- the steps where no image is restored
-births-none : (rec : Rec) (block : RecBlock) (image : Option NewImage) (lines : List ℕ) → image ≡ None → births rec block image lines ≡ births_written rec.head.xid.0 block.block lines block.tuples
+births-none : (rec : Rec) (block : RecBlock) (image : Option RecImage) (lines : List ℕ) → image ≡ None → births rec block image lines ≡ births_written rec.head.xid.0 block.block lines block.tuples
 unfolding births
 births-none rec block image lines none = rw none refl
 
 put-none :
-    (rec : Rec) (block : RecBlock) (image : Option NewImage) (xmax line : ℕ) (old : List ℕ) → image ≡ None
+    (rec : Rec) (block : RecBlock) (image : Option RecImage) (xmax line : ℕ) (old : List ℕ) → image ≡ None
     → version_put rec block image xmax line old ≡ version_written rec block xmax line old block.tuples
 unfolding version_put
 put-none rec block image xmax line old none = rw none refl
@@ -238,14 +238,14 @@ module _ (from : LogOrigin) (log : List Rec) (vs : List Version) (rec : Rec) (bl
   unfolding own_steps changed with_steps
   kind-shown (Insert line flags) f rule e = births-shown (line ∷ []) e rule
   kind-shown (MultiInsert flags lines) f rule e = births-shown lines e rule
-  kind-shown (Delete xmax line bits flags) f rule e = deletion-shown xmax line bits flags (has flags 0x08) f.0 refl rule e
+  kind-shown (Delete xmax line bits flags) f rule e = deletion-shown xmax.0 line bits flags (has flags 0x08) f.0 refl rule e
   kind-shown (Update old_xmax old_line old_bits flags new_xmax new_line) f rule e =
-      update-shown old_xmax old_line old_bits new_xmax new_line (number_of 0 rec.blocks) (number_of 1 rec.blocks) f.0 rule e
+      update-shown old_xmax.0 old_line old_bits new_xmax.0 new_line (number_of 0 rec.blocks) (number_of 1 rec.blocks) f.0 rule e
   kind-shown (Lock xmax line bits flags) f rule e =
-      head-changed line xmax bits (λ head. locked xmax bits block.block line head) f.0
-      (λ head. marks-locked xmax bits block.block line head) e
+      head-changed line xmax.0 bits (λ head. locked xmax.0 bits block.block line head) f.0
+      (λ head. marks-locked xmax.0 bits block.block line head) e
   kind-shown (LockUpdated xmax line bits flags) f rule e =
-      head-changed line xmax bits (λ head. marked xmax bits head) f.0 (λ head. marks-marked xmax bits head) e
+      head-changed line xmax.0 bits (λ head. marked xmax.0 bits head) f.0 (λ head. marks-marked xmax.0 bits head) e
   kind-shown (Confirm line) f rule e = pointed-shown from log vs block.block line block.block items after shown.1 shown.0 e
   kind-shown (Checkpoint redo timeline previous writes next multi member oldest active) f rule e = subst (Shown from log vs block.block) (cc) shown
   kind-shown (BackupEnd start) f rule e = subst (Shown from log vs block.block) (cc) shown

@@ -4,7 +4,7 @@ use Rattle.std.proofs.lemmas.Bool.{and_right, or_right, lt-leb, false≢true, bo
 use Rattle.heap_page.specs.Item.{Item, unused, is_normal, numbered}
 use Rattle.heap_page.specs.Page.{is_page}
 use Rattle.heap_page.specs.Law.{TuplesKeepRule}
-use Rattle.wal_record.specs.declared.new.NewImage.{NewImage}
+use Rattle.wal_bodies.specs.declared.types.RecImage.{RecImage}
 use Rattle.wal_bodies.specs.declared.types.RecBlock.{RecBlock}
 use Rattle.wal_bodies.specs.declared.types.Rec.{Rec}
 use Rattle.wal_bodies.specs.declared.types.RecKind.{RecKind}
@@ -62,7 +62,7 @@ steps_own :
     → block_steps rec block count vs ≡ own_steps rec block rec.kind vs
 unfolding whole_steps
 steps_own rec block count vs e =
-    ap (λ (image : Option NewImage). whole_steps block rec.kind image count ++ own_steps rec block rec.kind vs) e
+    ap (λ (image : Option RecImage). whole_steps block rec.kind image count ++ own_steps rec block rec.kind vs) e
 
 -- the block is left as it was
 pub record IsKept (rec : Rec) (block : RecBlock) (steps : List RowStep) (before left : Seen) : Type 0 where
@@ -80,7 +80,7 @@ pub record IsChanged (from : LogOrigin) (log : List Rec) (rec : Rec) (block : Re
   pub there : is_anew block ≡ false → block.block < count
 
 -- the image that is restored fits
-applied_fits : (image : Option NewImage) → ImageFits image → ImageFits (applied image)
+applied_fits : (image : Option RecImage) → ImageFits image → ImageFits (applied image)
 applied_fits None fits = tt
 applied_fits (Some image) fits = fits_if image.apply
   where
@@ -152,8 +152,8 @@ module _ (rec : Rec) (block : RecBlock) where
   restored_left false before left items stamps e = cc
 
   -- is the block left?
-  left_with : (image : Option NewImage) → applied block.image ≡ image → is_left rec block ≡ (is_images rec.kind && not (is_some image))
-  left_with image e = ap (λ (x : Option NewImage). is_images rec.kind && not (is_some x)) e
+  left_with : (image : Option RecImage) → applied block.image ≡ image → is_left rec block ≡ (is_images rec.kind && not (is_some image))
+  left_with image e = ap (λ (x : Option RecImage). is_images rec.kind && not (is_some x)) e
 
 -- the block of the record, with the versions before the record and those before its steps in this block
 module _ (keep : TuplesKeepRule) (from : LogOrigin) (log : List Rec) (rec : Rec) (block : RecBlock) (count now : ℕ) (vs ws last : List Version)
@@ -162,7 +162,7 @@ module _ (keep : TuplesKeepRule) (from : LogOrigin) (log : List Rec) (rec : Rec)
     (later : SameIn block.block last (with_steps ws (block_steps rec block count vs))) where
   -- restored from its image
   one_restored :
-      (image : NewImage) (before left : Seen) → applied block.image ≡ Some image → ImageRule from log last block.block (Some image)
+      (image : RecImage) (before left : Seen) → applied block.image ≡ Some image → ImageRule from log last block.block (Some image)
       → ImageFits (Some image)
       → left_by rec block before (after_restore image) ≡ Ok left
       → IsChanged from log rec block now (with_steps ws (block_steps rec block count vs)) left
@@ -177,7 +177,7 @@ module _ (keep : TuplesKeepRule) (from : LogOrigin) (log : List Rec) (rec : Rec)
         fits = image_fits keep image fits is_page_there;
         not_left = stamps;
         there = λ (not_anew : is_anew block ≡ false).
-            absurd (both_ways (is_anew block) not_anew (ap (λ (x : Option NewImage). is_some x || block.will_init) e));
+            absurd (both_ways (is_anew block) not_anew (ap (λ (x : Option RecImage). is_some x || block.will_init) e));
       }
 
   -- changed
@@ -253,7 +253,7 @@ module _ (keep : TuplesKeepRule) (from : LogOrigin) (log : List Rec) (rec : Rec)
 
   -- by the image
   one_with :
-      (image : Option NewImage) (before left : Seen) → applied block.image ≡ image → ImageFits image
+      (image : Option RecImage) (before left : Seen) → applied block.image ≡ image → ImageFits image
       → ImageRule from log last block.block image → Holds from log ws now rec.end.0 block.block before
       → left_by rec block before (after_image rec block (content_of before) image) ≡ Ok left
       → IsKept rec block (block_steps rec block count vs) before left

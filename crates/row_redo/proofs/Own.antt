@@ -1,6 +1,6 @@
 -- The steps of a record in one of its blocks are made in that block.
 use Rattle.std.proofs.Common.{ℕ, ◌+◌, Bool, true, false, not, ◌&&◌, ◌==◌, cond, nat_le, List, [], ◌∷◌, Option, Some, None, refl}
-use Rattle.wal_record.specs.declared.new.NewImage.{NewImage}
+use Rattle.wal_bodies.specs.declared.types.RecImage.{RecImage}
 use Rattle.wal_bodies.specs.declared.types.NewTuple.{NewTuple}
 use Rattle.wal_bodies.specs.declared.types.RecBlock.{RecBlock}
 use Rattle.wal_bodies.specs.declared.types.Rec.{Rec}
@@ -29,7 +29,7 @@ unfolding births_shown
 shown_in block items [] = tt
 shown_in block items (line ∷ lines) = (refl, shown_in block items lines)
 
-births_in : (rec : Rec) (block : RecBlock) (image : Option NewImage) (lines : List ℕ) → AllIn block.block (births rec block image lines)
+births_in : (rec : Rec) (block : RecBlock) (image : Option RecImage) (lines : List ℕ) → AllIn block.block (births rec block image lines)
 unfolding births
 births_in rec block None lines = written_in rec.head.xid.0 block.block lines block.tuples
 births_in rec block (Some image) lines = shown_in block.block (items_in image) lines
@@ -42,7 +42,7 @@ version_in rec block xmax line old [] = tt
 version_in rec block xmax line old (tuple ∷ tuples) = (refl, tt)
 
 put_in :
-    (rec : Rec) (block : RecBlock) (image : Option NewImage) (xmax line : ℕ) (old : List ℕ)
+    (rec : Rec) (block : RecBlock) (image : Option RecImage) (xmax line : ℕ) (old : List ℕ)
     → AllIn block.block (version_put rec block image xmax line old)
 unfolding version_put
 put_in rec block None xmax line old = version_in rec block xmax line old block.tuples
@@ -66,10 +66,10 @@ unfolding own_steps
 own_in rec block (Insert line flags) vs = births_in rec block (applied block.image) (line ∷ [])
 own_in rec block (MultiInsert flags lines) vs = births_in rec block (applied block.image) lines
 own_in rec block (Delete xmax line bits flags) vs =
-    either_in block.block (has flags 0x08) (Undone block.block line ∷ []) (Deleter block.block line (deleter_of_mark xmax bits) ∷ [])
+    either_in block.block (has flags 0x08) (Undone block.block line ∷ []) (Deleter block.block line (deleter_of_mark xmax.0 bits) ∷ [])
     (refl, tt) (refl, tt)
 own_in rec block (Update old_xmax old_line old_bits flags new_xmax new_line) vs =
-    update_in rec block old_xmax old_line old_bits new_xmax new_line (number_of 0 rec.blocks) (number_of 1 rec.blocks) vs
+    update_in rec block old_xmax.0 old_line old_bits new_xmax.0 new_line (number_of 0 rec.blocks) (number_of 1 rec.blocks) vs
 own_in rec block (Lock xmax line bits flags) vs = (refl, tt)
 own_in rec block (LockUpdated xmax line bits flags) vs = (refl, tt)
 own_in rec block (Checkpoint redo timeline previous writes next multi member oldest active) vs = tt
@@ -92,7 +92,7 @@ items_in_block block line (normal tuple ∷ items) = (refl, items_in_block block
 items_in_block block line (redirect to ∷ items) = items_in_block block (line + 1) items
 items_in_block block line (dead ∷ items) = items_in_block block (line + 1) items
 
-whole_in : (block : RecBlock) (kind : RecKind) (image : Option NewImage) (count : ℕ) → AllIn block.block (whole_steps block kind image count)
+whole_in : (block : RecBlock) (kind : RecKind) (image : Option RecImage) (count : ℕ) → AllIn block.block (whole_steps block kind image count)
 unfolding whole_steps
 whole_in block kind None count = tt
 whole_in block kind (Some image) count =

@@ -10,7 +10,7 @@ use Rattle.heap_page.specs.Page.{lsn_of, items_of, lines_of, line_count, item_of
 use Rattle.heap_page.specs.Put.{restored}
 use Rattle.heap_page.specs.Law.{TuplesKeepRule, ZerosHaveNone}
 use Rattle.page_store.specs.Content.{zeros}
-use Rattle.wal_record.specs.declared.new.NewImage.{NewImage}
+use Rattle.wal_bodies.specs.declared.types.RecImage.{RecImage}
 use Rattle.heap_redo.specs.After.{page_of_image}
 use Rattle.heap_redo.specs.Redone.{seen, seen_page, bad_block}
 use Rattle.row_model.specs.RowSteps.{items_in}
@@ -86,7 +86,7 @@ restored_bytes hole bytes h =
     (All-drop is_byte hole bytes h)
 
 -- those of an image
-pub image_fits : TuplesKeepRule → (image : NewImage) → AreBytes image.bytes → is_page (page_of_image image) ≡ true → TuplesFit (items_in image)
+pub image_fits : TuplesKeepRule → (image : RecImage) → AreBytes image.bytes → is_page (page_of_image image) ≡ true → TuplesFit (items_in image)
 image_fits keep image bytes is = page_fits keep (page_of_image image) (restored_bytes image.hole_at image.bytes bytes) is
 
 zeros_all : (n : ℕ) → list_all (λ (byte : ℕ). byte == 0) (replicate n 0) ≡ true

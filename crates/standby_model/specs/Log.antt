@@ -39,11 +39,9 @@ stop_by (reader.End why) = Ended why
 stop_by reader.Compressed = Refused Compressed
 stop_by reader.TooLong = Refused TooLong
 
--- The typed form is a function of the record and wants no memory, so its fault is never the last one.
 abbrev pub refusal_by : BodyFault → Refusal
-refusal_by (body.Length lsn) = Length
-refusal_by (body.Unsupported lsn what) = Unsupported what
-refusal_by body.Memory = Length
+refusal_by body.Length = Length
+refusal_by (body.Unsupported what) = Unsupported what
 
 abbrev pub unless_refused : Result Rec BodyFault → Result Rec Stop
 unless_refused (Ok rec) = Ok rec

@@ -74,31 +74,11 @@ impl<'a> RecBlocks<'a> {
         ensures { result ≡ self.now }
     {
         RecBlocks {
-            first: again(&self.first),
-            second: again(&self.second),
-            view: again_view(&self.view),
+            first: self.first.as_ref().map(|block| block.again()),
+            second: self.second.as_ref().map(|block| block.again()),
+            view: self.view.as_ref().map(|view| view.again()),
             id: self.id,
         }
-    }
-}
-
-/// The same block, if there is one.
-fn again<'a>(block: &Option<RecBlock<'a>>) -> Option<RecBlock<'a>>
-    ensures { result ≡ block.now }
-{
-    match block {
-        Some(block) => Some(block.again()),
-        None => None,
-    }
-}
-
-/// The same record, if there is one.
-fn again_view<'a>(view: &Option<RecordView<'a>>) -> Option<RecordView<'a>>
-    ensures { result ≡ view.now }
-{
-    match view {
-        Some(view) => Some(view.again()),
-        None => None,
     }
 }
 

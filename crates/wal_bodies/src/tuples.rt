@@ -68,7 +68,8 @@ fn multi_tuples<'a>(count: usize, view: &RecordView<'a>) -> Result<NewTuples<'a>
     if is_applied(&block) {
         return Ok(NewTuples::none());
     }
-    listed(count, block.payload)
+    check_listed(count, block.payload)?;
+    Ok(NewTuples::listed(block.payload, count))
 }
 
 /// No tuples, in a record that has to have block 0.
@@ -151,14 +152,6 @@ fn replaced<'a>(prefix: u16, suffix: u16, bytes: &'a [u8]) -> Result<NewTuples<'
     let (_, rest) = bytes.split_at(5);
     let tuple = tuple_with(bytes, 0, prefix, suffix, rest);
     Ok(NewTuples::one(tuple))
-}
-
-/// As many tuples of a multi-insert, each of which is there.
-fn listed<'a>(count: usize, bytes: &'a [u8]) -> Result<NewTuples<'a>, BodyFault>
-    ensures { result ≡ listed_from bytes.now 0 count }
-{
-    check_listed(count, bytes)?;
-    Ok(NewTuples::listed(bytes, count))
 }
 
 /// Whether as many tuples of a multi-insert are there.

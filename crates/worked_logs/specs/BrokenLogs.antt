@@ -24,7 +24,7 @@ insert_by_ended = worked_record 0x20001F0 0x2000240 700 10 0x00 (Insert 3 0) (wo
 
 -- 700 deletes line 2 after its commit
 abbrev pub delete_by_ended : Rec
-delete_by_ended = worked_record 0x20001F0 0x2000228 700 10 0x10 (Delete 700 2 0x10 0) (bare_block 0 false ∷ [])
+delete_by_ended = worked_record 0x20001F0 0x2000228 700 10 0x10 (Delete (record { 0 = 700 }) 2 0x10 0) (bare_block 0 false ∷ [])
 
 -- 702 makes the block anew, over its two versions, by a multi-insert of no tuples
 abbrev pub anew_again : Rec
@@ -32,11 +32,11 @@ anew_again = worked_record 0x20001F0 0x2000228 702 9 0xD0 (MultiInsert 0 []) (ba
 
 -- 702 deletes line 2 by the multixact 5, which no record made: not a lock alone
 abbrev pub lock_by_unmade : Rec
-lock_by_unmade = worked_record 0x20001F0 0x2000228 702 10 0x60 (Lock 5 2 0x01 0) (bare_block 0 false ∷ [])
+lock_by_unmade = worked_record 0x20001F0 0x2000228 702 10 0x60 (Lock (record { 0 = 5 }) 2 0x01 0) (bare_block 0 false ∷ [])
 
 -- 702 deletes line 3, which is free
 abbrev pub delete_of_none : Rec
-delete_of_none = worked_record 0x20001F0 0x2000228 702 10 0x10 (Delete 702 3 0x10 0) (bare_block 0 false ∷ [])
+delete_of_none = worked_record 0x20001F0 0x2000228 702 10 0x10 (Delete (record { 0 = 702 }) 3 0x10 0) (bare_block 0 false ∷ [])
 
 -- 700 commits again
 abbrev pub commit_again : Rec

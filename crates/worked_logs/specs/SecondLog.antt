@@ -5,7 +5,7 @@
 -- (XactLogCommitRecord), standby.c (LogStandbySnapshot).
 use Rattle.std.specs.Prelude.{ℕ, pos, ◌==◌, Bool, true, false, List, [], ◌∷◌, ◌++◌, Some, None, if◌then◌else◌}
 use Rattle.pg_types.specs.declared.names.Locator.{Locator}
-use Rattle.wal_record.specs.declared.new.NewImage.{NewImage}
+use Rattle.wal_bodies.specs.declared.types.RecImage.{RecImage}
 use Rattle.wal_bodies.specs.declared.types.RecBlock.{RecBlock}
 use Rattle.wal_bodies.specs.declared.types.Rec.{Rec}
 use Rattle.wal_bodies.specs.declared.types.RecKind.TheVariants.{Checkpoint, Delete, Ended, Insert, Running}
@@ -71,7 +71,7 @@ page_begin =
     ∷ 208 ∷ 159 ∷ 88 ∷ 0 ∷ []
 
 -- the page, its hole from the end of the lines to the tuple, which ends at a multiple of 8
-abbrev pub page_image : NewImage
+abbrev pub page_image : RecImage
 page_image =
     record { apply = true; hole_at = 28; bytes = page_begin ++ deleted_tuple ++ 0 ∷ 0 ∷ 0 ∷ 0 ∷ [] }
 
@@ -80,7 +80,7 @@ deleted_block =
     record { id = 0; locator = worked_table; block = 0; will_init = false; image = Some page_image; tuples = [] }
 
 abbrev pub delete_by_701 : Rec
-delete_by_701 = worked_record 0x2000228 0x20002A8 701 10 0x10 (Delete 701 1 0x10 0) (deleted_block ∷ [])
+delete_by_701 = worked_record 0x2000228 0x20002A8 701 10 0x10 (Delete (record { 0 = 701 }) 1 0x10 0) (deleted_block ∷ [])
 
 abbrev pub abort_of_701 : Rec
 abort_of_701 = worked_record 0x20002A8 0x20002D0 701 1 0x20 (Ended (pos 0) 0 []) []

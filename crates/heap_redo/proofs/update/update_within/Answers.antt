@@ -1,4 +1,4 @@
-use Rattle.std.proofs.Common.{arith, ap, sym, ◌∙◌, ◌≡◌, get_or, length, replicate, take, ℕ}
+use Rattle.std.proofs.Common.{arith, ap, sym, ◌∙◌, ◌≡◌, length, replicate, take, ℕ}
 use Rattle.std.proofs.lemmas.Grind.{common_steps}
 use Rattle.std.proofs.lemmas.List.{length-replicate}
 use Rattle.heap_page.specs.Item.{numbered, tuple_in}
@@ -6,14 +6,14 @@ use Rattle.heap_page.specs.Page.{items_of}
 use Rattle.heap_redo.specs.After.{user_data, joined}
 use Rattle.heap_redo.specs.Refused.{refusal_of}
 use Rattle.heap_redo.proofs.Versions.{short-room}
-use Rattle.heap_redo.proofs.Updates.{within-none, within-refused, none-length, some-length}
+use Rattle.heap_redo.proofs.Updates.{within-none, within-refused, first-none, first-there, first-is}
 use Rattle.heap_redo.proofs.update.update_within.Goals as goal
 
-pub returns-then-is_empty-clause-answer : goal.returns-then-is_empty-clause-answer
-returns-then-is_empty-clause-answer c =
+pub returns-in_default-clause-answer : goal.returns-in_default-clause-answer
+returns-in_default-clause-answer c =
     let v = c.args.versions in
     let block = c.args.block.now in
-    let none = none-length c.as_slice-tuples.result.now block.tuples c.as_slice-tuples.ensures c.if-is_empty.ensures in
+    let none = first-none block.tuples (sym c.in_default.is ∙ c.first.ensures) in
     c.mark_old.ensures.answer
     ∙ sym (within-none c.args.rec.now block v.is_hot v.old_xmax v.old_line v.old_bits v.new_xmax v.new_line (items_of c.args.page.now) none)
 
@@ -26,12 +26,11 @@ returns-in_err-check_mark-clause-answer c =
 
 pub replace-requires-clause-some : goal.replace-requires-clause-some
 replace-requires-clause-some c =
-    some-length c.as_slice-tuples.result.now c.args.block.now.tuples c.as_slice-tuples.ensures c.if-is_empty.ensures
+    first-there c.args.block.now.tuples c.in-Some.tuple (sym c.in-Some.is ∙ c.first.ensures)
 
 pub replace-requires-clause-tuple : goal.replace-requires-clause-tuple
 replace-requires-clause-tuple c =
-    let tuple = c.index-tuples-0.result in
-    c.index-tuples-0.is ∙ ap (λ tuples. get_or tuples 0 tuple) c.as_slice-tuples.ensures
+    first-is c.args.block.now.tuples c.in-Some.tuple (sym c.in-Some.is ∙ c.first.ensures)
 
 pub replace-requires-clause-marks : goal.replace-requires-clause-marks
 replace-requires-clause-marks c = c.in_ok-check_mark.ensures
@@ -39,16 +38,15 @@ replace-requires-clause-marks c = c.in_ok-check_mark.ensures
 pub replace-requires-clause-room : goal.replace-requires-clause-room
 replace-requires-clause-room c =
     let size : length {A = ℕ} (replicate 512 0) ≡ 512 = length-replicate {A = ℕ} 512 0 in
-    short-room c.index-tuples-0.result (user_data (tuple_in (numbered (items_of c.args.page.now) c.args.versions.old_line))) _ size (omega (arith, c.joined_bound.ensures))
+    short-room c.in-Some.tuple (user_data (tuple_in (numbered (items_of c.args.page.now) c.args.versions.old_line))) _ size (omega (arith, c.joined_bound.ensures))
 
 pub replace-requires-2-clause-some : goal.replace-requires-2-clause-some
 replace-requires-2-clause-some c =
-    some-length c.as_slice-tuples.result.now c.args.block.now.tuples c.as_slice-tuples.ensures c.if-is_empty.ensures
+    first-there c.args.block.now.tuples c.in-Some.tuple (sym c.in-Some.is ∙ c.first.ensures)
 
 pub replace-requires-2-clause-tuple : goal.replace-requires-2-clause-tuple
 replace-requires-2-clause-tuple c =
-    let tuple = c.index-tuples-0.result in
-    c.index-tuples-0.is ∙ ap (λ tuples. get_or tuples 0 tuple) c.as_slice-tuples.ensures
+    first-is c.args.block.now.tuples c.in-Some.tuple (sym c.in-Some.is ∙ c.first.ensures)
 
 pub replace-requires-2-clause-marks : goal.replace-requires-2-clause-marks
 replace-requires-2-clause-marks c = c.in_ok-check_mark.ensures
@@ -56,4 +54,4 @@ replace-requires-2-clause-marks c = c.in_ok-check_mark.ensures
 pub replace-requires-2-clause-room : goal.replace-requires-2-clause-room
 replace-requires-2-clause-room c =
     let size : length {A = ℕ} (replicate 8192 0) ≡ 8192 = length-replicate {A = ℕ} 8192 0 in
-    ap (λ n. take n (joined c.index-tuples-0.result (user_data (tuple_in (numbered (items_of c.args.page.now) c.args.versions.old_line))))) size
+    ap (λ n. take n (joined c.in-Some.tuple (user_data (tuple_in (numbered (items_of c.args.page.now) c.args.versions.old_line))))) size
