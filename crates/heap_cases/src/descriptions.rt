@@ -3,9 +3,10 @@ ghost use Rattle.std.specs.Prelude.{◌<◌, length};
 
 use crate::kinds::word;
 use crate::printed;
+use crate::rows::show_cell;
 use crate::texts::text;
 use case_text::{Answer, Wrong, locator, number_u32};
-use heap_tuple::{Cell, Column};
+use heap_tuple::Column;
 use pg_types::Locator;
 use std::alloc::Global;
 use table_schema::{Key, SchemaFault, Tables, read_schema};
@@ -142,17 +143,6 @@ fn show_column(answer: &mut Answer, column: &Column) {
     answer.say(word(column.kind));
     if let Some(cell) = &column.missing {
         answer.say("=");
-        show_cell(answer, cell);
-    }
-}
-
-/// A value: bytes in hex.
-pub fn show_cell(answer: &mut Answer, cell: &Cell) {
-    match cell {
-        Cell::Null => answer.say("null"),
-        Cell::Bool(true) => answer.say("true"),
-        Cell::Bool(false) => answer.say("false"),
-        Cell::Int(number) => answer.signed(*number),
-        Cell::Bytes(bytes) => answer.bytes(bytes.as_slice()),
+        show_cell(answer, "", cell);
     }
 }

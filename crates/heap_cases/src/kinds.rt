@@ -3,37 +3,38 @@ use heap_tuple::{Cell, Column, Kind};
 use pg_types::Bytes;
 use std::alloc::Global;
 
+/// The types, each with its word.
+static KINDS: [(&str, Kind); 10] = [
+    ("bool", Kind::Bool),
+    ("int2", Kind::Int2),
+    ("int4", Kind::Int4),
+    ("int8", Kind::Int8),
+    ("oid", Kind::Oid),
+    ("uuid", Kind::Uuid),
+    ("text", Kind::Text),
+    ("bytea", Kind::Bytea),
+    ("raw4", Kind::Raw4),
+    ("raw8", Kind::Raw8),
+];
+
 /// The type that a word names.
 pub fn kind(word: &str) -> Result<Kind, Wrong> {
-    match word {
-        "bool" => Ok(Kind::Bool),
-        "int2" => Ok(Kind::Int2),
-        "int4" => Ok(Kind::Int4),
-        "int8" => Ok(Kind::Int8),
-        "oid" => Ok(Kind::Oid),
-        "uuid" => Ok(Kind::Uuid),
-        "text" => Ok(Kind::Text),
-        "bytea" => Ok(Kind::Bytea),
-        "raw4" => Ok(Kind::Raw4),
-        "raw8" => Ok(Kind::Raw8),
-        _ => Err(Wrong::Line),
+    for (name, kind) in KINDS.iter() {
+        if *name == word {
+            return Ok(*kind);
+        }
     }
+    Err(Wrong::Line)
 }
 
 /// The word for a type.
 pub fn word(kind: Kind) -> &'static str {
-    match kind {
-        Kind::Bool => "bool",
-        Kind::Int2 => "int2",
-        Kind::Int4 => "int4",
-        Kind::Int8 => "int8",
-        Kind::Oid => "oid",
-        Kind::Uuid => "uuid",
-        Kind::Text => "text",
-        Kind::Bytea => "bytea",
-        Kind::Raw4 => "raw4",
-        Kind::Raw8 => "raw8",
+    for (name, other) in KINDS.iter() {
+        if *other == kind {
+            return *name;
+        }
     }
+    "another type"
 }
 
 /// A value that older tuples have.

@@ -1,7 +1,7 @@
 ghost use Rattle.std.specs.Prelude.{◌≡◌, ◌<◌, IfOk};
 ghost use Rattle.page_store.specs.Content.{table_count};
 
-use crate::items::ShowPage;
+use crate::items::page_text;
 use crate::pages::{change_page, set_page_byte};
 use case_text::{Wrong, number_u16, number_u32};
 use page_store::{Pool, PoolFault};
@@ -62,10 +62,7 @@ fn look(alloc: Global, pool: &mut Pool, tag: Tag) -> Result<String, Wrong>
     ensures { table_count pool.new ≡ table_count pool.old }
 {
     match pool.look(tag) {
-        Ok(page) => {
-            let text = ShowPage(page);
-            Ok(format!(in alloc; "{text}")?)
-        }
+        Ok(page) => page_text(alloc, page),
         Err(fault) => Ok(String::from_str(alloc, shown(fault))?),
     }
 }
@@ -107,15 +104,14 @@ fn changed(alloc: Global, pool: &mut Pool, words: &[&str]) -> Result<String, Wro
     requires { table_count pool.old ≡ 2 }
     ensures { table_count pool.new ≡ 2 }
 {
-    let Some((table, rest)) = words.split_first() else {
-        return Err(Wrong::Line);
-    };
-    let Some((block, rest)) = rest.split_first() else {
-        return Err(Wrong::Line);
-    };
-    let tag = tag(*table, *block)?;
-    let text = change(alloc, pool, tag, rest)?;
-    Ok(String::from_str(alloc, text)?)
+    match *words {
+        [table, block, ref rest @ ..] => {
+            let tag = tag(table, block)?;
+            let text = change(alloc, pool, tag, rest)?;
+            Ok(String::from_str(alloc, text)?)
+        }
+        _ => Err(Wrong::Line),
+    }
 }
 
 fn change(alloc: Global, pool: &mut Pool, tag: Tag, words: &[&str]) -> Result<&'static str, Wrong>

@@ -1,8 +1,9 @@
 //! Rows as they are printed. A tab is shown as `~`.
 use crate::items::tuple;
 use crate::kinds::kind;
+use crate::rows::refused;
 use case_text::{Wrong, bytes};
-use heap_tuple::{Cell, Kind, Row, RowFault, TupleView};
+use heap_tuple::{Cell, Kind, Row, TupleView};
 use pg_types::Bytes;
 use std::alloc::Global;
 use table_schema::{Tables, read_schema};
@@ -23,10 +24,7 @@ pub fn answer(alloc: Global, word: &str) -> Result<String, Wrong> {
 
 /// The text of the row that a tuple has: the columns as `int4,text='old'`, each with the value of older tuples
 /// as TOML writes it, and the tuple by its fields.
-pub fn of_tuple(alloc: Global, words: &[&str]) -> Result<String, Wrong> {
-    let Some((columns, fields)) = words.split_first() else {
-        return Err(Wrong::Line);
-    };
+pub fn of_tuple(alloc: Global, columns: &str, fields: &[&str]) -> Result<String, Wrong> {
     let mut text = String::new(alloc);
     for (i, part) in columns.split(',').enumerate() {
         text = match part.split_once('=') {
@@ -51,9 +49,7 @@ fn deformed(alloc: Global, tables: &Tables, view: &TupleView<'_>) -> Result<Stri
     }
     match view.deform(alloc, tables.columns(0)) {
         Ok(row) => print(alloc, tables, &row),
-        Err(RowFault::Toasted { column }) => Ok(format!(in alloc; "toasted, column {column}")?),
-        Err(RowFault::Bad { column }) => Ok(format!(in alloc; "bad, column {column}")?),
-        Err(RowFault::Memory) => Err(Wrong::Memory),
+        Err(fault) => refused(alloc, fault),
     }
 }
 

@@ -3,6 +3,8 @@
 //! shares nothing with this product, and what has to be printed, in the file stdout, was worked out by hand.
 #![tactic(auto)]
 
+mod nodes;
+
 use case_text::{bytes, number_u32};
 use outside::{Archive, MemoryArchive, MemorySink, SteadyArchive, SteadySink};
 use standby_cli::standby_main;
@@ -95,6 +97,7 @@ const SEGMENTED: [(&str, &[u8]); 4] = [
 ];
 
 fn main(rt: HostRuntime) -> io::Result<()> {
+    nodes::answer_all(&rt)?;
     for name in CASES {
         let mut archive = archive_of(&rt, name)?;
         report(&rt, name, &["scan", "t"], &mut archive)?;
