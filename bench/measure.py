@@ -8,6 +8,22 @@ import tempfile
 import time
 
 PAGE = 8192
+# The description of the table of bench/redo/make_log.c, as `standby scan` reads it.
+SCHEMA = """database = 16384
+
+[[table]]
+name = "t"
+oid = 16385
+file = 16385
+
+[[table.column]]
+name = "id"
+type = "int4"
+
+[[table.column]]
+name = "note"
+type = "text"
+"""
 # The page magic (XLOG_PAGE_MAGIC, xlog_internal.h) of the releases whose records have the form of release 16.
 MAGICS = {"15": 0xD110, "16": 0xD113, "17": 0xD116}
 
@@ -76,6 +92,9 @@ class Log:
         subprocess.run(["gcc", "-O2", "-o", maker, source], check=True)
         words = [maker, str(mib), str(self.blocks)]
         out = subprocess.run(words, cwd=folder, check=True, stdout=subprocess.PIPE, text=True).stdout
+        os.mkdir(os.path.join(folder, "base"))
+        with open(os.path.join(folder, "base", "schema.toml"), "w") as file:
+            file.write(SCHEMA)
         self.start, self.end = out.split()[:2]
         self.kinds = {kind: int(count) for kind, count in re.findall(r"(\w+)=(\d+)", out)}
         self.name = "%d MiB over %d blocks" % (mib, self.blocks)

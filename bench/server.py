@@ -41,12 +41,20 @@ def give(path):
 
 
 class Server:
-    """A cluster in the folder `data` of a folder that the server's user may write."""
+    """A cluster in the folder `data` of a folder that the server's user may write. In a `with` it is stopped at the
+    end, whatever comes."""
 
     def __init__(self, folder, data="data"):
         self.release, self.programs = installed()
         self.folder, self.data = folder, os.path.join(folder, data)
         self.log = os.path.join(folder, data + ".log")
+
+    def __enter__(self):
+        return self
+
+    def __exit__(self, *_):
+        if os.path.exists(os.path.join(self.data, "postmaster.pid")):
+            self.stop()
 
     def run(self, name, *words, **more):
         path = os.path.join(self.programs, name)

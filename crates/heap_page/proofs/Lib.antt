@@ -10,3 +10,4 @@ pub mod Overwrite
 pub mod Rooms
 pub mod Taken
 pub mod Written
+mod Parted

@@ -50,18 +50,6 @@ assembled old a b c first rest size room ea eb ec =
           ∙ sym (get_or-append_right (first ++ mid) rest (8192 - length rest) i 0 (omega arith) high)
     ])
 
-pub image-restored : (page first rest bytes : List ℕ) (hole at : ℕ) → length bytes ≤ 8192 → at ≡ min hole (length bytes) → first ≡ take at (drop 0 bytes) → rest ≡ take (length bytes - at) (drop at bytes) → page ≡ first ++ replicate (8192 - (length first + length rest)) 0 ++ rest → page ≡ restored hole bytes
-unfolding restored
-image-restored page first rest bytes hole at small ea ef er ep =
-    let f : first ≡ take hole bytes = ef ∙ ap (λ n. take n bytes) ea ∙ take_min hole bytes in
-    let r : rest ≡ drop hole bytes =
-    er ∙ take_all (length bytes - at) (drop at bytes) (omega (arith, length-drop at bytes)) ∙ ap (λ n. drop n bytes) ea ∙ drop_min hole bytes in
-    let n : length first + length rest ≡ length bytes =
-    omega (arith, ap length f, ap length r, length-take hole bytes, length-drop hole bytes) in
-    ep ∙ ap (λ k. first ++ replicate (8192 - k) 0 ++ rest) n
-    ∙ ap (λ xs. xs ++ replicate (8192 - length bytes) 0 ++ rest) f
-    ∙ ap (λ xs. take hole bytes ++ replicate (8192 - length bytes) 0 ++ xs) r
-
 not-page : (page : List ℕ) → (length page ≢ 8192) → is_page page ≡ false
 unfolding is_page
 not-page page h = and_left _ _ (ne_eqb (length page) 8192 h)

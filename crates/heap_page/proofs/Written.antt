@@ -48,6 +48,12 @@ unfolding number_at
 number_at-zeros n at page h =
     little_from-zero n 0 (drop at page) (λ k a b. get_or-drop at page k 0 ∙ h (at + k) (omega arith) (omega arith))
 
+pub number_at-moved : (n at to : ℕ) (xs ys : List ℕ) → ((i : ℕ) → i < n → get_or xs (at + i) 0 ≡ get_or ys (to + i) 0) → number_at n xs at ≡ number_at n ys to
+unfolding number_at
+number_at-moved n at to xs ys h =
+    little_from-same n 0 (drop at xs) (drop to ys)
+    (λ k a b. get_or-drop at xs k 0 ∙ h k (omega arith) ∙ sym (get_or-drop to ys k 0))
+
 pub number_at-same : (n at : ℕ) (xs ys : List ℕ) → SameFrom at (at + n) xs ys → number_at n xs at ≡ number_at n ys at
 unfolding number_at
 number_at-same n at xs ys h =

@@ -1,5 +1,6 @@
 pub mod Change
 pub mod Item
+pub mod Joined
 pub mod Law
 pub mod Page
 pub mod Put

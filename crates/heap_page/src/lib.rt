@@ -2,6 +2,7 @@
 //! list of its items; where a tuple stands in the page is not seen.
 #![tactic(auto)]
 
+mod block_parts;
 mod bytes;
 mod change;
 mod image;

@@ -1,4 +1,4 @@
-ghost use Rattle.std.specs.Prelude.{◌≡◌, ◌-◌, ◌<◌, [], length, IsTrue, OnOk, OnErr};
+ghost use Rattle.std.specs.Prelude.{◌≡◌, ◌-◌, ◌<◌, ℕ, [], length, slice_index, IsTrue, OnOk, OnErr};
 ghost use Rattle.heap_page.specs.Item.{numbered, with_item, item_in, is_unused};
 ghost use Rattle.heap_page.specs.Page.{lsn_of, line_count, lines_of, items_of, is_laid, IsPage};
 ghost use Rattle.heap_page.specs.Put.{set_line_answer};
@@ -17,6 +17,17 @@ pub fn init(page: &mut Page)
     ensures lsn { lsn_of page.new ≡ 0 }
 {
     zero_out(page);
+    begin(page);
+}
+
+/// Makes a block that is all zero a page without items and of position 0.
+pub fn begin(page: &mut Page)
+    requires { (i : ℕ) → slice_index page.old i ≡ 0 }
+    ensures page { IsPage page.new }
+    ensures laid { IsTrue (is_laid page.new) }
+    ensures items { items_of page.new ≡ [] }
+    ensures lsn { lsn_of page.new ≡ 0 }
+{
     write_u16(page, 12, 24);
     write_u16(page, 14, 8192);
     write_u16(page, 16, 8192);

@@ -33,7 +33,15 @@ pub fn pointer_at(page: &Page, k: usize) -> Pointer
     ensures state { result.state ≡ state_in (pointer_of page.now k) }
     ensures length { result.length ≡ length_in (pointer_of page.now k) }
 {
-    let word = u32_at(page, 24 + 4 * k);
+    pointer_of_word(u32_at(page, 24 + 4 * k))
+}
+
+/// The parts of a line pointer's word.
+pub fn pointer_of_word(word: u32) -> Pointer
+    ensures offset { result.offset ≡ offset_in word }
+    ensures state { result.state ≡ state_in word }
+    ensures length { result.length ≡ length_in word }
+{
     Pointer {
         offset: (word % 32768) as u16,
         state: (word / 32768 % 4) as u8,

@@ -1,12 +1,11 @@
 ghost use Rattle.std.specs.Prelude.{◌≡◌, ◌↔◌, ℕ, ◌+◌, ◌≤◌, ◌<◌, true, false, length, get_or, IsTrue};
 ghost use Rattle.heap_page.specs.Item.{aligned};
-ghost use Rattle.heap_page.specs.Page.{pointer_of, line_count, is_zeros, is_header, is_placed, are_apart, all_below, is_laid, is_page};
+ghost use Rattle.heap_page.specs.Page.{pointer_of, line_count, offset_in, state_in, length_in, is_zeros, is_header, is_placed, are_apart, all_below, is_laid, is_page};
 ghost use Rattle.heap_page.specs.Unit.{AreFree};
 
+use crate::block_parts::BlockParts;
 use crate::line::Page;
-use crate::pointer::{NORMAL, Pointer, line_count, pointer_at};
-use heap_tuple::is_tuple;
-use pg_types::u16_at;
+use crate::pointer::{NORMAL, Pointer, pointer_of_word};
 
 /// Whether the block keeps the page rule: all of it is zero, or it has the header of a heap page, each
 /// line that points to a tuple points to one at a multiple of 8 in the upper part, and no two of these
@@ -15,19 +14,21 @@ use pg_types::u16_at;
 pub fn check(page: &Page) -> bool
     ensures { result ≡ is_page page.now }
 {
-    is_zeros(page) || is_laid(page)
+    check_parts(&BlockParts::block(page))
 }
 
-/// Whether each byte is zero.
-fn is_zeros(page: &Page) -> bool
-    ensures { result ≡ is_zeros page.now }
+/// Whether the block that is shown keeps it.
+#[tactic(auto, using(std::proofs::lemmas::Bool::Decides::nat_tests, crate::proofs::Parted::parted_page))]
+pub fn check_parts(page: &BlockParts<'_>) -> bool
+    ensures { result ≡ is_page page.now }
 {
-    page.iter().all(|byte| *byte == 0)
+    page.keeps_size();
+    page.is_zeros() || is_laid(page)
 }
 
 /// Whether the block is laid out as a heap page.
 #[tactic(auto, unfolding(crate::specs::Page::is_laid))]
-fn is_laid(page: &Page) -> bool
+fn is_laid(page: &BlockParts<'_>) -> bool
     ensures { result ≡ is_laid page.now }
 {
     is_header(page) && lines_are_placed(page) && lines_are_apart(page)
@@ -35,22 +36,39 @@ fn is_laid(page: &Page) -> bool
 
 /// Whether the header is that of a heap page.
 #[tactic(auto, using(std::proofs::lemmas::Bool::Decides::nat_tests), unfolding(crate::specs::Page::is_header))]
-fn is_header(page: &Page) -> bool
+fn is_header(page: &BlockParts<'_>) -> bool
     ensures { result ≡ is_header page.now }
 {
-    let lower = u16_at(page, 12);
-    let upper = u16_at(page, 14);
-    u16_at(page, 18) == 0x2004
-        && u16_at(page, 16) == 8192
+    let lower = page.u16_at(12);
+    let upper = page.u16_at(14);
+    page.u16_at(18) == 0x2004
+        && page.u16_at(16) == 8192
         && 24 <= lower
         && lower <= upper
         && upper <= 8192
         && lower % 4 == 0
 }
 
+/// Line pointer `k`, from 0.
+fn pointer_at(page: &BlockParts<'_>, k: usize) -> Pointer
+    requires { k < 2042 }
+    ensures offset { result.offset ≡ offset_in (pointer_of page.now k) }
+    ensures state { result.state ≡ state_in (pointer_of page.now k) }
+    ensures length { result.length ≡ length_in (pointer_of page.now k) }
+{
+    pointer_of_word(page.u32_at(24 + 4 * k))
+}
+
+/// How many line pointers the block has.
+fn line_count(page: &BlockParts<'_>) -> usize
+    ensures { result ≡ line_count page.now }
+{
+    (page.u16_at(12) as usize).saturating_sub(24) / 4
+}
+
 /// Whether a line, if it points to a tuple, points to one in the upper part.
 #[tactic(auto, using(std::proofs::lemmas::Bool::Decides::nat_tests), unfolding(crate::specs::Page::is_placed))]
-fn is_placed(page: &Page, k: usize) -> bool
+fn is_placed(page: &BlockParts<'_>, k: usize) -> bool
     requires { k < 2042 }
     ensures { result ≡ is_placed page.now (pointer_of page.now k) }
 {
@@ -60,14 +78,14 @@ fn is_placed(page: &Page, k: usize) -> bool
     }
     let start = pointer.offset as usize;
     let end = start + pointer.length as usize;
-    if start % 8 != 0 || start < u16_at(page, 14) as usize || 8192 < end {
+    if start % 8 != 0 || start < page.u16_at(14) as usize || 8192 < end {
         return false;
     }
-    is_tuple(&page[start..end])
+    page.has_tuple(start, end)
 }
 
 /// Whether each line is placed.
-fn lines_are_placed(page: &Page) -> bool
+fn lines_are_placed(page: &BlockParts<'_>) -> bool
     requires { IsTrue (is_header page.now) }
     ensures { result ≡ all_below (λ k. is_placed page.now (pointer_of page.now k)) (line_count page.now) }
 {
@@ -106,7 +124,7 @@ fn take_units(taken: &mut [bool], first: usize, end: usize) -> bool
 }
 
 /// Whether no unit of 8 bytes is taken by the tuples of two lines. All units are free before.
-fn units_are_taken_once(page: &Page, taken: &mut [bool]) -> bool
+fn units_are_taken_once(page: &BlockParts<'_>, taken: &mut [bool]) -> bool
     requires header { IsTrue (is_header page.now) }
     requires placed { IsTrue (all_below (λ k. is_placed page.now (pointer_of page.now k)) (line_count page.now)) }
     requires units { length taken.old ≡ 1024 }
@@ -115,6 +133,7 @@ fn units_are_taken_once(page: &Page, taken: &mut [bool]) -> bool
         (λ k. all_below (λ j. are_apart (pointer_of page.now j) (pointer_of page.now k)) k)
         (line_count page.now) }
 {
+    page.keeps_size();
     for k in 0..line_count(page) {
         let pointer = pointer_at(page, k);
         if pointer.state == NORMAL {
@@ -128,7 +147,7 @@ fn units_are_taken_once(page: &Page, taken: &mut [bool]) -> bool
 }
 
 /// Whether no unit of 8 bytes is taken by the tuples of two lines.
-fn lines_share_no_unit(page: &Page) -> bool
+fn lines_share_no_unit(page: &BlockParts<'_>) -> bool
     requires header { IsTrue (is_header page.now) }
     requires placed { IsTrue (all_below (λ k. is_placed page.now (pointer_of page.now k)) (line_count page.now)) }
     ensures { result ≡ all_below
@@ -141,7 +160,7 @@ fn lines_share_no_unit(page: &Page) -> bool
 
 /// Whether each tuple ends at or before the begin of the one of the line before it, as on a page that was
 /// only filled. Such lines are apart.
-fn lines_descend(page: &Page) -> bool
+fn lines_descend(page: &BlockParts<'_>) -> bool
     requires { IsTrue (is_header page.now) }
     ensures { IsTrue result → IsTrue (all_below
         (λ k. all_below (λ j. are_apart (pointer_of page.now j) (pointer_of page.now k)) k)
@@ -161,7 +180,7 @@ fn lines_descend(page: &Page) -> bool
 }
 
 /// Whether each two lines, all of them placed, are apart.
-fn lines_are_apart(page: &Page) -> bool
+fn lines_are_apart(page: &BlockParts<'_>) -> bool
     requires header { IsTrue (is_header page.now) }
     requires placed { IsTrue (all_below (λ k. is_placed page.now (pointer_of page.now k)) (line_count page.now)) }
     ensures { result ≡ all_below

@@ -7,7 +7,7 @@ ghost use Rattle.heap_page.specs.Shown.{shown, item_to, IsState, KeepsRule};
 use crate::change::{check_head, check_put, put, set_head};
 use crate::image::assemble_image;
 use crate::line::{Item, LineState, Page, PageError};
-use crate::page::{init, item, lines, lsn, set_line, set_lsn};
+use crate::page::{begin, init, item, lines, lsn, set_line, set_lsn};
 use crate::rule::check;
 use pg_types::Lsn;
 use std::marker::Model;
@@ -36,12 +36,13 @@ impl Model for HeapPage {
 impl HeapPage {
     /// A page without items and of position 0.
     pub fn new() -> HeapPage
+        ensures page { IsPage result }
         ensures laid { IsTrue (is_laid result) }
         ensures items { items_of result ≡ [] }
         ensures lsn { lsn_of result ≡ 0 }
     {
         let mut bytes = [0; 8192];
-        init(&mut bytes);
+        begin(&mut bytes);
         HeapPage { bytes }
     }
 

@@ -14,7 +14,7 @@ use Rattle.wal_bodies.specs.declared.types.Rec.{Rec}
 use Rattle.wal_bodies.specs.declared.types.RecBlock.{RecBlock}
 use Rattle.wal_bodies.specs.Stored.{first_of}
 use Rattle.heap_redo.specs.TupleHeads.{head_bytes}
-use Rattle.heap_redo.specs.After.{BlockRefusal, no_tuple, answered, put, tuple_of, joined, user_data, put_version, is_short, update_old, update_within, ◌>>=◌}
+use Rattle.heap_redo.specs.After.{BlockRefusal, no_tuple, answered, put, tuple_of, joined, user_data, put_version, is_short, update_old, update_within, ◌>>=◌, new_head}
 use Rattle.heap_redo.proofs.Versions.{drop-first}
 
 take-none : {X : Type 0} → (n : ℕ) → take n (let xs : List X = [] in xs) ≡ []
@@ -106,16 +106,7 @@ put-cut items line head rest long small =
 pub put-cut_tuple : (items : List Item) (xid xmax block line : ℕ) (tuple : NewTuple) (rest : List ℕ) → tuple.hoff < 256 → put line (tuple_of xid xmax block line tuple (take 8192 rest)) items ≡ put line (tuple_of xid xmax block line tuple rest) items
 unfolding tuple_of head_bytes
 put-cut_tuple items xid xmax block line tuple rest small =
-    put-cut items line (head_bytes (record {
-      xmin = xid;
-      xmax = xmax;
-      cid = 0;
-      ctid_block = block;
-      ctid_line = line;
-      mask2 = tuple.mask2;
-      mask = tuple.mask;
-      hoff = tuple.hoff;
-    })) rest refl small
+    put-cut items line (head_bytes (new_head xid xmax block line tuple)) rest refl small
 
 no_tuples : (tuples : List NewTuple) → length tuples ≡ 0 → tuples ≡ []
 no_tuples [] h = refl

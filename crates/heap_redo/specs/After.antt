@@ -56,10 +56,10 @@ change_head line f items =
     let head = head_bytes (f (head_of (tuple_in (numbered items line)))) in
     answered line (with_header items line head) (set_head_answer items line head)
 
--- a tuple that this transaction puts at this place, with this xmax and these bytes behind its header
-unfoldable pub tuple_of : ℕ → ℕ → ℕ → ℕ → NewTuple → List ℕ → List ℕ
-tuple_of xid xmax block line tuple rest =
-    head_bytes (record {
+-- the header of a tuple that this transaction puts at this place, with this xmax
+abbrev pub new_head : ℕ → ℕ → ℕ → ℕ → NewTuple → Head
+new_head xid xmax block line tuple =
+    record {
       xmin = xid;
       xmax = xmax;
       cid = 0;
@@ -68,7 +68,11 @@ tuple_of xid xmax block line tuple rest =
       mask2 = tuple.mask2;
       mask = tuple.mask;
       hoff = tuple.hoff;
-    }) ++ rest
+    }
+
+-- the tuple, with these bytes behind its header
+unfoldable pub tuple_of : ℕ → ℕ → ℕ → ℕ → NewTuple → List ℕ → List ℕ
+tuple_of xid xmax block line tuple rest = head_bytes (new_head xid xmax block line tuple) ++ rest
 
 -- tuples go to these lines, one after the other
 unfoldable pub put_listed : ℕ → ℕ → List ℕ → List NewTuple → List Item → Result (List Item) BlockRefusal

@@ -1,2 +1,3 @@
 pub mod RowLoop
+pub mod SameTuples
 pub mod TupleFacts

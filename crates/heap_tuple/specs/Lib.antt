@@ -1,2 +1,3 @@
 pub mod Tuple
 pub mod Values
+pub mod Lent

@@ -10,8 +10,6 @@ use Rattle.heap_tuple.specs.declared.cell.Cell.TheVariants.{Null, Bool as BoolCe
 use Rattle.heap_tuple.specs.declared.cell.Column.{Column}
 use Rattle.heap_tuple.specs.declared.values.ValueRefusal.{ValueRefusal}
 use Rattle.heap_tuple.specs.declared.values.ValueRefusal.TheVariants.{Toasted as IsToasted, Bad as IsBad}
-use Rattle.heap_tuple.specs.declared.values.ValueFault.{ValueFault}
-use Rattle.heap_tuple.specs.declared.values.ValueFault.TheVariants.{Refused, Memory as NoMemoryForValue}
 use Rattle.heap_tuple.specs.declared.values.RowFault.{RowFault}
 use Rattle.heap_tuple.specs.declared.values.RowFault.TheVariants.{Toasted, Bad, Memory}
 
@@ -115,13 +113,17 @@ has_value tuple i =
     not (has_bits (infomask_of tuple) 0x0001)
     || (slice_index tuple (23 + i / 8) / 2 ^ (i % 8) % 2 == 1)
 
--- column i of a tuple whose next value is looked for from `at` on: a column past the tuple's count has
--- the value that is described as missing, or null
+-- column i of a tuple that has it, of this type, whose next value is looked for from `at` on
+abbrev pub stored_column : List ℕ → ℕ → ℕ → Kind → Result (Cell × ℕ) ValueRefusal
+stored_column tuple i at kind =
+    if has_value tuple i then value_of kind (drop (hoff_of tuple) tuple) at
+    else Ok (Null, at)
+
+-- column i of a tuple: one past the tuple's count has the value that is described as missing, or null
 unfoldable pub column_value : List ℕ → ℕ → ℕ → Column → Result (Cell × ℕ) ValueRefusal
 column_value tuple i at column =
     if nat_le (columns_of tuple) i then Ok (unwrap_or column.missing Null, at)
-    else if has_value tuple i then value_of column.kind (drop (hoff_of tuple) tuple) at
-    else Ok (Null, at)
+    else stored_column tuple i at column.kind
 
 -- why a row is not given: the value of this column is stored outside or compressed, or is malformed
 pub data RowRefusal : Type 0 where
@@ -156,18 +158,12 @@ row_of tuple columns =
     if nat_lt (length columns) (columns_of tuple) then Err (BadIn (length columns - 1))
     else cells_from tuple 0 0 columns
 
--- the fault of a row whose column i has this one
-abbrev pub fault_in : ℕ → ValueFault → RowFault
-fault_in i (Refused IsToasted) = Toasted i
-fault_in i (Refused IsBad) = Bad i
-fault_in i NoMemoryForValue = Memory
+-- the fault of a row whose column i is refused so
+abbrev pub fault_in : ℕ → ValueRefusal → RowFault
+fault_in i IsToasted = Toasted i
+fault_in i IsBad = Bad i
 
 -- an answer says what the definition gives, unless memory is wanting
-abbrev pub SaysValue : {A : Type 0} → Result A ValueFault → Result A ValueRefusal → Type 0
-SaysValue (Ok value) expected = expected ≡ Ok value
-SaysValue (Err (Refused refusal)) expected = expected ≡ Err refusal
-SaysValue (Err NoMemoryForValue) expected = Unit {0}
-
 abbrev pub SaysRow : Result (List Cell) RowFault → Result (List Cell) RowRefusal → Type 0
 SaysRow (Ok cells) expected = expected ≡ Ok cells
 SaysRow (Err (Toasted column)) expected = expected ≡ Err (ToastedIn column)

@@ -5,8 +5,10 @@
 mod cell;
 pub mod infomask;
 mod tuple_view;
+mod value;
 mod values;
 
 pub use cell::{Cell, Column, Kind, Row};
 pub use tuple_view::{MaxOf, TupleView, is_lock_only, is_tuple, is_tuple_head};
-pub use values::RowFault;
+pub use value::Value;
+pub use values::{RowFault, ValueRefusal, fault_in};

@@ -1,13 +1,15 @@
-ghost use Rattle.std.specs.Prelude.{◌≡◌, ◌⊎◌, ◌+◌, ◌^◌, ◌≤◌, ◌<◌, ◌-◌, length, IfOk, IfErr, unwrap_or};
+ghost use Rattle.std.specs.Prelude.{◌≡◌, ◌+◌, ◌^◌, ◌≤◌, ◌<◌, ◌-◌, length, IfOk, IfErr, unwrap_or};
 ghost use Rattle.heap_tuple.specs.declared.cell.Cell.TheVariants.{Null};
-ghost use Rattle.heap_tuple.specs.Values.{aligned_to, within, fixed_span, varlena_at, varlena_span, span_of, truth_of, cell_of, least_width, value_of, has_value, column_value, fault_in, cells_from, row_of, SaysRow, SaysValue};
+ghost use Rattle.heap_tuple.specs.Values.{aligned_to, within, fixed_span, varlena_at, varlena_span, span_of, truth_of, cell_of, least_width, value_of, has_value, stored_column, fault_in, cells_from, row_of, SaysRow};
+ghost use Rattle.heap_tuple.specs.Lent.{meant_at, meant_value};
 ghost use Rattle.heap_tuple.specs.Tuple.{columns_of, hoff_of};
 
 use crate::cell::{Cell, Column, Kind, Row};
 use crate::infomask;
 use crate::tuple_view::TupleView;
+use crate::value::{Value, push_owned};
 use byteorder::{ByteOrder, LittleEndian};
-use pg_types::{Bytes, NoMemory, u32_at};
+use pg_types::{NoMemory, u32_at};
 use std::alloc::Global;
 use thiserror::Error;
 
@@ -41,35 +43,6 @@ impl From<NoMemory> for RowFault {
 pub enum ValueRefusal {
     Toasted,
     Bad,
-}
-
-/// Why one value is not given.
-#[derive(Clone, Copy, Debug, PartialEq, Eq)]
-pub enum ValueFault {
-    Refused(ValueRefusal),
-    Memory,
-}
-
-impl From<ValueRefusal> for ValueFault {
-    ghost use Rattle.std.specs.Prelude.{◌≡◌};
-    ghost use Rattle.heap_tuple.specs.declared.values.ValueFault.TheVariants.{Refused};
-
-    ghost from_gives = { λ refusal fault. fault ≡ Refused refusal };
-
-    fn from(refusal: ValueRefusal) -> ValueFault {
-        ValueFault::Refused(refusal)
-    }
-}
-
-impl From<NoMemory> for ValueFault {
-    ghost use Rattle.std.specs.Prelude.{◌≡◌};
-    ghost use Rattle.heap_tuple.specs.declared.values.ValueFault.TheVariants.{Memory};
-
-    ghost from_gives = { λ _ fault. fault ≡ Memory };
-
-    fn from(_: NoMemory) -> ValueFault {
-        ValueFault::Memory
-    }
 }
 
 /// The next multiple of `n`.
@@ -177,52 +150,45 @@ fn span(kind: Kind, content: &[u8], at: usize) -> Result<(usize, usize), ValueRe
 
 /// The truth value of a byte.
 #[tactic(auto, using(std::proofs::lemmas::Bool::Decides::nat_tests))]
-fn truth(byte: u8) -> Result<Cell, ValueRefusal>
-    ensures { result ≡ truth_of byte }
+fn truth<'a>(byte: u8) -> Result<Value<'a>, ValueRefusal>
+    ensures { meant_value result ≡ truth_of byte }
 {
     match byte {
-        0 => Ok(Cell::Bool(false)),
-        1 => Ok(Cell::Bool(true)),
+        0 => Ok(Value::Bool(false)),
+        1 => Ok(Value::Bool(true)),
         _ => Err(ValueRefusal::Bad),
     }
 }
 
-/// A cell with a copy of these bytes.
-fn bytes_cell(alloc: Global, bytes: &[u8]) -> Result<Cell, ValueFault>
-    ensures { SaysValue result (Ok (Cell.Bytes bytes.now)) }
-{
-    Ok(Cell::Bytes(Bytes::from_slice(alloc, bytes)?))
-}
-
 /// The value of this type that the bytes store.
 #[tactic(auto, unfolding(crate::specs::Values::cell_of, pg_types::specs::Numbers::number_at))]
-fn cell(alloc: Global, kind: Kind, bytes: &[u8]) -> Result<Cell, ValueFault>
+fn stored(kind: Kind, bytes: &[u8]) -> Result<Value<'_>, ValueRefusal>
     requires { least_width kind ≤ length bytes.now }
-    ensures { SaysValue result (cell_of kind bytes.now) }
+    ensures { meant_value result ≡ cell_of kind bytes.now }
 {
     match kind {
-        Kind::Bool => Ok(truth(bytes[0])?),
-        Kind::Int2 => Ok(Cell::Int(i64::from(LittleEndian::read_i16(bytes)))),
-        Kind::Int4 => Ok(Cell::Int(i64::from(LittleEndian::read_i32(bytes)))),
-        Kind::Int8 => Ok(Cell::Int(LittleEndian::read_i64(bytes))),
-        Kind::Oid => Ok(Cell::Int(i64::from(u32_at(bytes, 0)))),
-        Kind::Uuid => bytes_cell(alloc, bytes),
-        Kind::Text => bytes_cell(alloc, bytes),
-        Kind::Bytea => bytes_cell(alloc, bytes),
-        Kind::Raw4 => bytes_cell(alloc, bytes),
-        Kind::Raw8 => bytes_cell(alloc, bytes),
+        Kind::Bool => truth(bytes[0]),
+        Kind::Int2 => Ok(Value::Int(i64::from(LittleEndian::read_i16(bytes)))),
+        Kind::Int4 => Ok(Value::Int(i64::from(LittleEndian::read_i32(bytes)))),
+        Kind::Int8 => Ok(Value::Int(LittleEndian::read_i64(bytes))),
+        Kind::Oid => Ok(Value::Int(i64::from(u32_at(bytes, 0)))),
+        Kind::Uuid => Ok(Value::Bytes(bytes)),
+        Kind::Text => Ok(Value::Bytes(bytes)),
+        Kind::Bytea => Ok(Value::Bytes(bytes)),
+        Kind::Raw4 => Ok(Value::Bytes(bytes)),
+        Kind::Raw8 => Ok(Value::Bytes(bytes)),
     }
 }
 
 /// The next value of this type in the user content, and where it ends.
-fn value(alloc: Global, kind: Kind, content: &[u8], at: usize) -> Result<(Cell, usize), ValueFault>
+fn value(kind: Kind, content: &[u8], at: usize) -> Result<(Value<'_>, usize), ValueRefusal>
     requires { at ≤ length content.now }
-    ensures value { SaysValue result (value_of kind content.now at) }
+    ensures value { meant_at result ≡ value_of kind content.now at }
     ensures inside { IfOk result (λ r. r.1 ≤ length content.now) }
 {
     let (start, end) = span(kind, content, at)?;
-    let cell = cell(alloc, kind, &content[start..end])?;
-    Ok((cell, end))
+    let value = stored(kind, &content[start..end])?;
+    Ok((value, end))
 }
 
 /// Whether the tuple has a value in column `i`, by its bitmap of nulls.
@@ -238,29 +204,9 @@ fn has_value(tuple: &TupleView, i: usize) -> bool
     bits >> (i % 8) & 1 == 1
 }
 
-#[tactic(auto, using(std::proofs::lemmas::Bool::Decides::nat_tests), unfolding(crate::specs::Values::column_value))]
-/// Column `i` of the tuple, whose next value is looked for from `at` on, and where the one after it is.
-fn column_value(
-    alloc: Global,
-    tuple: &TupleView,
-    i: usize,
-    at: usize,
-    column: &Column,
-) -> Result<(Cell, usize), ValueFault>
-    requires { at ≤ length tuple.now - hoff_of tuple.now }
-    ensures value { SaysValue result (column_value tuple.now i at column.now) }
-    ensures inside { IfOk result (λ r. r.1 ≤ length tuple.now - hoff_of tuple.now) }
-    ensures stored { IfErr result (λ fault. (fault ≡ ValueFault.Memory) ⊎ (i < 2048)) }
-{
-    if tuple.columns() as usize <= i {
-        return Ok((missing_cell(alloc, column)?, at));
-    }
-    if has_value(tuple, i) {
-        return value(alloc, column.kind, tuple.user_data(), at);
-    }
-    Ok((Cell::Null, at))
-}
-
+/// Column `i` of the tuple, from 0, whose next value is looked for from `at` on in the user data, and where
+/// the one after it is. A column that the tuple does not have has the value that is described as missing,
+/// or null. It takes no memory.
 /// What a column has in a tuple that ends before it.
 fn missing_cell(alloc: Global, column: &Column) -> Result<Cell, NoMemory>
     ensures { IfOk result (λ cell. cell ≡ unwrap_or column.now.missing Null) }
@@ -271,15 +217,14 @@ fn missing_cell(alloc: Global, column: &Column) -> Result<Cell, NoMemory>
     }
 }
 
-/// The fault of a row whose column `i` has this one.
-fn fault_in(i: usize, fault: ValueFault) -> RowFault
-    requires { (fault ≡ ValueFault.Memory) ⊎ (i < 2048) }
-    ensures { result ≡ fault_in i fault }
+/// The fault of a row whose column `i` is refused so.
+pub fn fault_in(i: usize, refusal: ValueRefusal) -> RowFault
+    requires { i < 2048 }
+    ensures { result ≡ fault_in i refusal }
 {
-    match fault {
-        ValueFault::Refused(ValueRefusal::Toasted) => RowFault::Toasted { column: i as u16 },
-        ValueFault::Refused(ValueRefusal::Bad) => RowFault::Bad { column: i as u16 },
-        ValueFault::Memory => RowFault::Memory,
+    match refusal {
+        ValueRefusal::Toasted => RowFault::Toasted { column: i as u16 },
+        ValueRefusal::Bad => RowFault::Bad { column: i as u16 },
     }
 }
 
@@ -300,6 +245,27 @@ impl<'a> TupleView<'a> {
         self.cells_of(alloc, columns)
     }
 
+    /// The value of column `i`, from 0, one of this type that the tuple has. It is looked for from `at` on
+    /// in the user data, and comes with where the one after it is. It takes no memory.
+    #[tactic(auto, using(std::proofs::lemmas::Bool::Decides::nat_tests))]
+    pub fn value_at(
+        &self,
+        i: usize,
+        at: usize,
+        kind: Kind,
+    ) -> Result<(Value<'a>, usize), ValueRefusal>
+        requires column { i < columns_of self.now }
+        requires inside { at ≤ length self.now - hoff_of self.now }
+        ensures value { meant_at result ≡ stored_column self.now i at kind }
+        ensures inside { IfOk result (λ r. r.1 ≤ length self.now - hoff_of self.now) }
+        ensures few { i < 2048 }
+    {
+        if has_value(self, i) {
+            return value(kind, self.user_data(), at);
+        }
+        Ok((Value::Null, at))
+    }
+
     /// The cells of the columns, one after the other.
     fn cells_of(&self, alloc: Global, columns: &[Column]) -> Result<Row, RowFault>
         ensures { SaysRow result (cells_from self.now 0 0 columns.now) }
@@ -307,12 +273,16 @@ impl<'a> TupleView<'a> {
         let mut row = Row::new(alloc);
         let mut at = 0;
         for (i, column) in columns.iter().enumerate() {
-            match column_value(alloc, self, i, at, column) {
-                Ok((cell, end)) => {
-                    row.push(cell)?;
-                    at = end;
+            if self.columns() as usize <= i {
+                row.push(missing_cell(alloc, column)?)?;
+            } else {
+                match self.value_at(i, at, column.kind) {
+                    Ok((value, end)) => {
+                        push_owned(alloc, &value, &mut row)?;
+                        at = end;
+                    }
+                    Err(refusal) => return Err(fault_in(i, refusal)),
                 }
-                Err(fault) => return Err(fault_in(i, fault)),
             }
         }
         Ok(row)

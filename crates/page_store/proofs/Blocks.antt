@@ -4,7 +4,7 @@ use Rattle.std.proofs.Math.Path.{fun_ext}
 use Rattle.std.specs.List.{All}
 use Rattle.std.proofs.lemmas.Bool.{cases_eq, cases_lt, false≢true}
 use Rattle.std.proofs.lemmas.Bool.Decides.{nat_tests}
-use Rattle.std.proofs.lemmas.List.{take_all, length-append, length-replicate}
+use Rattle.std.proofs.lemmas.List.{take_all, length-append, length-replicate, set-append_right}
 use Rattle.std.proofs.Math.ListN.{length-set}
 use Rattle.std.proofs.lemmas.Option.{slice_get_past, slice_get_read, slice_get-get_or}
 use Rattle.pg_types.specs.declared.names.Tag.{Tag}
@@ -339,3 +339,11 @@ content-same old new t table changed tables here pages in_tables =
 pub on_err : {A E P : Type 0} → (r : Result A E) → P → OnErr r P
 on_err (Ok x) p = tt
 on_err (Err e) p = p
+
+-- a page that is pushed stands where the table would have been extended to
+pub pushed_last : (pages pushed : List (List ℕ)) (block : ℕ) (page : List ℕ) → length pages ≡ block → pushed ≡ pages ++ page ∷ [] → pushed ≡ slice_set (extended pages (block + 1)) block page
+pushed_last pages pushed block page size is =
+    let one : block + 1 - length pages ≡ 1 = omega (arith, size) in
+    let none : block - length pages ≡ 0 = omega (arith, size) in
+    is ∙ sym (ap (λ (n : ℕ). slice_set (pages ++ replicate n zeros) block page) one
+    ∙ (set-append_right pages (zeros ∷ []) (length pages) block page refl (omega (arith, size)) ∙ ap (λ (n : ℕ). pages ++ slice_set (zeros ∷ []) n page) none))

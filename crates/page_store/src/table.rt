@@ -50,6 +50,10 @@ impl Table {
         ensures ok { OnOk result (Freshened self.old self.new block) }
         ensures err { OnErr result (self.new.pages.items ≡ self.old.pages.items) }
     {
+        if self.pages.len() == block {
+            self.pages.push(HeapPage::new())?;
+            return Ok(());
+        }
         self.extend(block + 1)?;
         self.pages[block].init();
         Ok(())

@@ -122,6 +122,30 @@ after_bits-by_tables x =
     ∙ with 32 (x / 2 ^ 32 % 256) _ _ (after_bits-shift_down 16 (2 ^ 40) x
     ∙ with 24 (x / 2 ^ 40 % 256) _ _ (after_bits-shift_down 8 (2 ^ 48) x))))))
 
+-- 32 bits, by four of them
+pub after_bits-by_four_tables : (x : ℕ) → after_bits 32 x ≡
+    bit_xor (bit_xor (bit_xor (after_bits 8 (x / 2 ^ 24)) (after_bits 16 (x / 2 ^ 16 % 256))) (after_bits 24 (x / 2 ^ 8 % 256))) (after_bits 32 (x % 256))
+after_bits-by_four_tables x =
+    let with : (n low : ℕ) (a b : ℕ) → a ≡ b → bit_xor a (after_bits n low) ≡ bit_xor b (after_bits n low) = λ n low a b e. ap (λ y. bit_xor y (after_bits n low)) e in
+    after_bits-low_byte 24 x
+    ∙ with 32 (x % 256) _ _ (after_bits-shift_down 16 (2 ^ 8) x
+    ∙ with 24 (x / 2 ^ 8 % 256) _ _ (after_bits-shift_down 8 (2 ^ 16) x))
+
+-- 64 bits and 64 bits of zeros, by the tables for these distances
+pub after_bits-by_far_tables : (x : ℕ) → after_bits 128 x ≡
+    bit_xor (bit_xor (bit_xor (bit_xor (bit_xor (bit_xor (bit_xor (after_bits 72 (x / 2 ^ 56))
+    (after_bits 80 (x / 2 ^ 48 % 256))) (after_bits 88 (x / 2 ^ 40 % 256))) (after_bits 96 (x / 2 ^ 32 % 256)))
+    (after_bits 104 (x / 2 ^ 24 % 256))) (after_bits 112 (x / 2 ^ 16 % 256))) (after_bits 120 (x / 2 ^ 8 % 256))) (after_bits 128 (x % 256))
+after_bits-by_far_tables x =
+    let with : (n low : ℕ) (a b : ℕ) → a ≡ b → bit_xor a (after_bits n low) ≡ bit_xor b (after_bits n low) = λ n low a b e. ap (λ y. bit_xor y (after_bits n low)) e in
+    after_bits-low_byte 120 x
+    ∙ with 128 (x % 256) _ _ (after_bits-shift_down 112 (2 ^ 8) x
+    ∙ with 120 (x / 2 ^ 8 % 256) _ _ (after_bits-shift_down 104 (2 ^ 16) x
+    ∙ with 112 (x / 2 ^ 16 % 256) _ _ (after_bits-shift_down 96 (2 ^ 24) x
+    ∙ with 104 (x / 2 ^ 24 % 256) _ _ (after_bits-shift_down 88 (2 ^ 32) x
+    ∙ with 96 (x / 2 ^ 32 % 256) _ _ (after_bits-shift_down 80 (2 ^ 40) x
+    ∙ with 88 (x / 2 ^ 40 % 256) _ _ (after_bits-shift_down 72 (2 ^ 48) x))))))
+
 -- a number of several bytes joins as its first byte does, the rest of it above
 after_bits-joined : (crc byte rest : ℕ) → byte < 256 → after_bits 8 (bit_xor crc (byte + 256 * rest)) ≡ bit_xor (after_byte crc byte) rest
 after_bits-joined crc byte rest h =
@@ -159,6 +183,30 @@ fold-eight_more xs at crc small h =
     ∙ fold-append after_byte crc (take at xs) (take 8 (drop at xs))
     ∙ fold-after_byte 8 0 (drop at xs) (fold after_byte crc (take at xs)) small_rest within
 
+-- sixteen bytes more, read as two numbers
+pub fold-sixteen_more : (xs : List ℕ) (at crc : ℕ) → ((k : ℕ) → get_or xs k 0 < 256) → at + 16 ≤ length xs
+    → fold after_byte crc (take (at + 16) xs)
+    ≡ bit_xor (after_bits 64 (little_number 8 (drop (at + 8) xs))) (after_bits 128 (bit_xor (fold after_byte crc (take at xs)) (little_number 8 (drop at xs))))
+fold-sixteen_more xs at crc small h =
+    let joined = bit_xor (fold after_byte crc (take at xs)) (little_number 8 (drop at xs)) in
+    let behind = little_number 8 (drop (at + 8) xs) in
+    let places : at + 16 ≡ at + 8 + 8 = omega arith in
+    let first : at + 8 ≤ length xs = omega arith in
+    let later : at + 8 + 8 ≤ length xs = omega arith in
+    ap (λ n. fold after_byte crc (take n xs)) places
+    ∙ fold-eight_more xs (at + 8) crc small later
+    ∙ ap (λ s. after_bits 64 (bit_xor s behind)) (fold-eight_more xs at crc small first)
+    ∙ after_bits-xor 64 (after_bits 64 joined) behind
+    ∙ ap (λ y. bit_xor y (after_bits 64 behind)) (sym (after_bits-add 64 64 joined))
+    ∙ xor_comm (after_bits 128 joined) (after_bits 64 behind)
+
 -- what was taken, and then the rest
 pub fold-take_drop : (xs : List ℕ) (at crc : ℕ) → fold after_byte (fold after_byte crc (take at xs)) (drop at xs) ≡ fold after_byte crc xs
 fold-take_drop xs at crc = sym (fold-append after_byte crc (take at xs) (drop at xs)) ∙ ap (fold after_byte crc) (take-append-drop at xs)
+
+-- the first bytes divided at once, and then the rest
+pub fold-front : (n : ℕ) (xs : List ℕ) (crc : ℕ) → ((k : ℕ) → get_or xs k 0 < 256) → n ≤ length xs
+    → fold after_byte (after_bits (8 * n) (bit_xor crc (little_number n xs))) (drop n xs) ≡ fold after_byte crc xs
+fold-front n xs crc small h =
+    let within : 0 + n ≤ length xs = omega arith in
+    ap (λ s. fold after_byte s (drop n xs)) (sym (fold-after_byte n 0 xs crc small within)) ∙ fold-take_drop xs n crc

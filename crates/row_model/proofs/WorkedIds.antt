@@ -2,21 +2,15 @@
 use Rattle.std.proofs.Common.{◌≡◌, ℕ, ◌<◌, ◌≤◌, true, false, ◌==◌, ◌||◌, nat_lt, List, [], ◌∷◌, arith, refl, sym, inl, inr, subst}
 use Rattle.std.proofs.lemmas.Bool.{eq-eqb, eqb-true, false_from_ne_true, false≢true, le-ltb, lt-ltb, or_cases, or_from, or_left}
 use Rattle.known_assigned.specs.Ids.{is_among}
-use Rattle.known_assigned.specs.declared.state.RunningHead.{RunningHead}
 use Rattle.transaction_model.specs.Transactions.{TransactionRecord, committed, ended, Live, seen}
 use Rattle.transaction_model.specs.LegalTransactions.{CommitRule, Legal, OnlineRule, OriginRule, RunningRule, before, greatest_next, last_redo, starts_at}
+use Rattle.transaction_model.proofs.NoIds.{among_one, none_at, nothing_head, nothing_rule, one_among}
 use Rattle.xact_redo.specs.TransactionsOf.{transaction_of, transactions_of}
 use Rattle.row_model.specs.WorkedRows.{insert_by_700, nothing_runs, online_checkpoint, update_by_701, worked_first, worked_log, worked_ids, worked_start}
 
 none_ended : (x : ℕ) → 3 ≤ x → ended worked_ids.at x [] ≡ false
 unfolding ended
-none_ended x normal =
-    or_from ((x == 1 || x == 2) || false) false
-    (or_from (x == 1 || x == 2) false
-    (or_from (x == 1) (x == 2) (false_from_ne_true (x == 1) (λ e. let f = eqb-true x 1 e in omega arith))
-    (false_from_ne_true (x == 2) (λ e. let f = eqb-true x 2 e in omega arith)))
-    refl)
-    refl
+none_ended x normal = none_at x normal
 
 worked_rule : OriginRule worked_ids
 unfolding committed
@@ -28,13 +22,6 @@ worked_rule =
       top_committed = λ x normal h. h;
       zero_not_committed = refl;
     }
-
--- a list of one id
-among_one : (x n : ℕ) → is_among x (n ∷ []) ≡ true → n ≡ x
-among_one x n h = elim (or_cases (n == x) false h) [ inl e ↦ eqb-true n x e | inr e ↦ absurd (false≢true e) ]
-
-one_among : (x n : ℕ) → n ≡ x → is_among x (n ∷ []) ≡ true
-one_among x n e = or_left (n == x) false (eq-eqb n x e)
 
 abbrev at_running : List TransactionRecord
 at_running = transactions_of (nothing_runs ∷ [])
@@ -48,41 +35,17 @@ ended_at_running : (x : ℕ) → x < 700 → ended worked_ids.at x at_running �
 unfolding ended transaction_of
 ended_at_running x low = or_left (nat_lt x 700) (ended worked_ids.at x []) (lt-ltb x 700 low)
 
-abbrev worked_head : RunningHead
-worked_head =
-    record {
-      overflow = false;
-      tops = 0;
-      next = record { 0 = 700 };
-      oldest = record { 0 = 700 };
-      latest = record { 0 = 699 };
-    }
-
-running_rule : RunningRule worked_ids worked_head [] at_running
+running_rule : RunningRule worked_ids (nothing_head 700 699) [] at_running
 unfolding seen greatest_next transaction_of
 running_rule =
-    record {
-      is_next =
-          record {
-            normal = omega arith;
-            above_seen = λ x h. let e = among_one x 0 h in omega arith;
-            not_below = omega arith;
-            none_ended = not_ended_at_running;
-          };
-      tops = λ x span l e.
-          let low = span.from_oldest in
-          let high = span.below_next in absurd (omega arith);
-      subs = λ x span l e.
-          let low = span.from_oldest in
-          let high = span.below_next in absurd (omega arith);
-      no_tops = λ x e h l. absurd (false≢true h);
-      spanned = λ x h. absurd (false≢true h);
-      normal = λ x h. absurd (false≢true h);
-      listed = λ x h e. absurd (false≢true h);
-      subs_end = ended_at_running;
-      latest = ended_at_running 699 (omega arith);
-      after_latest = λ x whole low high e. absurd (omega arith);
-    }
+    nothing_rule worked_ids 700 699 at_running (omega arith)
+    (record {
+      normal = omega arith;
+      above_seen = λ x h. let e = among_one x 0 h in omega arith;
+      not_below = omega arith;
+      none_ended = not_ended_at_running;
+    })
+    ended_at_running (ended_at_running 699 (omega arith))
 
 -- at the checkpoint's redo nothing had been written
 online_rule : OnlineRule worked_ids 0x2000028 700 at_running (transactions_of (online_checkpoint ∷ nothing_runs ∷ []))

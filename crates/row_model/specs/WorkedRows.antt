@@ -118,9 +118,10 @@ worked_first = commit_of_700 ∷ insert_by_700 ∷ worked_start
 abbrev pub worked_log : List Rec
 worked_log = commit_of_701 ∷ update_by_701 ∷ worked_first
 
--- the tuple of the first version: xmin 700, xmax 0, command 0, ctid (0,1), the masks and where its values begin
-abbrev pub first_row : Version
-first_row =
+-- a version that 700 inserted at line 1 of block 0: xmin 700, xmax 0, command 0, ctid (0,1), the masks and where its values
+-- begin, and its values
+abbrev pub inserted_by_700 : List ℕ → Version
+inserted_by_700 values =
     record {
       block = 0;
       line = 1;
@@ -134,9 +135,12 @@ first_row =
           ∷ 0 ∷ 0 ∷ 0 ∷ 0
           ∷ 0 ∷ 0 ∷ 0 ∷ 0 ∷ 1 ∷ 0
           ∷ 2 ∷ 0 ∷ 2 ∷ 8 ∷ 24 ∷ 0
-          ∷ 1 ∷ 0 ∷ 0 ∷ 0 ∷ 33
-          ∷ 97 ∷ 108 ∷ 112 ∷ 104 ∷ 97 ∷ 45 ∷ 111 ∷ 110 ∷ 101 ∷ 45 ∷ 111 ∷ 109 ∷ 101 ∷ 103 ∷ 97 ∷ [];
+          ∷ values;
     }
+
+-- the first version: 1 and 'alpha-one-omega'
+abbrev pub first_row : Version
+first_row = inserted_by_700 first_values
 
 -- that of the second: xmin 701, ctid (0,2), and 'alpha-two-omega'
 abbrev pub second_row : Version

@@ -2,15 +2,12 @@
 use Rattle.std.proofs.Common.{◌≡◌, ℕ, ◌+◌, ◌-◌, ◌/◌, ◌≤◌, List, [], ◌∷◌, drop, get_or, Result, Ok, Err, arith, refl, sym, ap, ◌∙◌, subst}
 use Rattle.std.proofs.lemmas.List.{get_or-drop, drop-drop}
 use Rattle.heap_tuple.specs.Tuple.{hoff_of}
+use Rattle.heap_tuple.proofs.SameTuples.{same_hoff}
 use Rattle.heap_tuple.specs.Values.{RowRefusal, has_value, column_value, row_from, cell_before, cells_from, row_of}
 use Rattle.heap_tuple.specs.declared.cell.Cell.{Cell}
 use Rattle.heap_tuple.specs.declared.cell.Column.{Column}
 use Rattle.heap_tuple.specs.declared.values.ValueRefusal.{ValueRefusal}
 use Rattle.row_model.specs.Shows.{StoresSame}
-
-hoff_same : (tuple written : List ℕ) → drop 22 tuple ≡ drop 22 written → hoff_of tuple ≡ hoff_of written
-hoff_same tuple written e =
-    sym (get_or-drop 22 tuple 0 0) ∙ ap (λ (d : List ℕ). get_or d 0 0) e ∙ get_or-drop 22 written 0 0
 
 byte_same :
     (tuple written : List ℕ) (k : ℕ) → drop 22 tuple ≡ drop 22 written → get_or tuple (23 + k) 0 ≡ get_or written (23 + k) 0
@@ -30,7 +27,7 @@ user_data_same :
     (tuple written : List ℕ) → 23 ≤ hoff_of written → drop 22 tuple ≡ drop 22 written
     → drop (hoff_of tuple) tuple ≡ drop (hoff_of written) written
 user_data_same tuple written behind e =
-    ap (λ (h : ℕ). drop h tuple) (hoff_same tuple written e) ∙ data_same tuple written (hoff_of written) behind e
+    ap (λ (h : ℕ). drop h tuple) (same_hoff tuple written e) ∙ data_same tuple written (hoff_of written) behind e
 
 has_value_same : (tuple written : List ℕ) (i : ℕ) → StoresSame tuple written → has_value tuple i ≡ has_value written i
 unfolding has_value

@@ -13,7 +13,7 @@ use Rattle.wal_bodies.specs.declared.types.RecKind.{RecKind}
 use Rattle.wal_bodies.specs.declared.types.RecKind.TheVariants.{Checkpoint, BackupEnd, Parameters, FullPageWrites, Images, Overwrite, Ended, Running, Insert, Delete, Update, Confirm, Lock, MultiInsert, LockUpdated, Other}
 use Rattle.wal_bodies.specs.Fields.{has}
 use Rattle.heap_redo.specs.TupleHeads.{Head, marked, deleted, replaced, locked}
-use Rattle.heap_redo.specs.After.{BlockRefusal, no_tuple, ◌>>=◌, applied, put, put_listed, put_version, change_head, tuple_of, joined, user_data, is_short, update_old, update_within, update, number_of, changed}
+use Rattle.heap_redo.specs.After.{BlockRefusal, no_tuple, ◌>>=◌, applied, put, put_listed, put_version, change_head, tuple_of, joined, user_data, is_short, update_old, update_within, update, number_of, changed, new_head}
 use Rattle.row_model.specs.Versions.{Version, RowStep, Born, Deleter, Undone, version_at, with_step, with_steps}
 use Rattle.row_model.specs.RowSteps.{deleter_of_mark, births_written, births, version_written, version_put, values_of, update_steps, own_steps}
 use Rattle.row_model.specs.Shows.{ShowsPlace, ShowsBlock}
@@ -34,16 +34,7 @@ tuple-bytes :
     → AreBytes (tuple_of xid xmax block line tuple rest)
 unfolding tuple_of
 tuple-bytes xid xmax block line tuple rest fits h =
-    head-bytes (record {
-      xmin = xid;
-      xmax = xmax;
-      cid = 0;
-      ctid_block = block;
-      ctid_line = line;
-      mask2 = tuple.mask2;
-      mask = tuple.mask;
-      hoff = tuple.hoff;
-    }) rest fits.hoff h
+    head-bytes (new_head xid xmax block line tuple) rest fits.hoff h
 
 joined-bytes : (tuple : NewTuple) (old : List ℕ) → TupleFits tuple → AreBytes old → AreBytes (joined tuple old)
 unfolding joined

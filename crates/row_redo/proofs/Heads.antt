@@ -10,6 +10,7 @@ use Rattle.byteorder.specs.Endian.{little_bytes}
 use Rattle.byteorder.specs.Numbers.{little_number-reads_back, little_from-lt}
 use Rattle.pg_types.specs.Numbers.{number_at}
 use Rattle.heap_tuple.specs.Tuple.{IsTuple, is_tuple, is_tuple_head, xmin_of, xmax_of, infomask_of, infomask2_of, hoff_of, is_lock_only}
+use Rattle.heap_tuple.proofs.SameTuples.{same_hoff}
 use Rattle.wal_bodies.specs.Fields.{has}
 use Rattle.heap_redo.specs.TupleHeads.{Head, head_of, head_bytes, marked_mask, marked, pointing_to, hot, pointing_after_delete, deleted, replaced, locked}
 use Rattle.heap_redo.specs.After.{user_data}
@@ -113,15 +114,9 @@ values-behind tuple long =
     let past : hoff_of tuple ≡ 22 + (hoff_of tuple - 22) = omega arith in
     ap (λ k. drop k tuple) past ∙ sym (drop-drop (hoff_of tuple - 22) 22 tuple) ∙ ap (λ b. drop (b - 22) (drop 22 tuple)) (sym byte)
 
--- the same bytes from byte 22 on begin with the same hoff
-pub same-hoff : (tuple written : List ℕ) → drop 22 tuple ≡ drop 22 written → hoff_of tuple ≡ hoff_of written
-same-hoff tuple written e =
-    sym (get_or-drop 22 tuple 0 0) ∙ ap (λ l. slice_index l 0) e ∙ get_or-drop 22 written 0 0
-
 pub same-values : (tuple written : List ℕ) → IsTuple tuple → drop 22 tuple ≡ drop 22 written → user_data tuple ≡ user_data written
 same-values tuple written h e =
-    let byte : hoff_of tuple ≡ hoff_of written =
-    sym (get_or-drop 22 tuple 0 0) ∙ ap (λ l. slice_index l 0) e ∙ get_or-drop 22 written 0 0 in
+    let byte = same_hoff tuple written e in
     let long = tuple-long tuple h in
     values-behind tuple (omega arith) ∙ ap (λ l. drop (slice_index l 0 - 22) l) e ∙ sym (values-behind written (omega (arith, byte)))
 

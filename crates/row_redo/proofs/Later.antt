@@ -7,6 +7,7 @@ use Rattle.heap_tuple.specs.declared.tuple_view.MaxOf.TheVariants.{None as NoDel
 use Rattle.heap_page.specs.Item.{Item, numbered}
 use Rattle.transaction_model.specs.Transactions.{Kind, Commit, Abort, Assignment, Running, Shutdown, Online, Other, TransactionRecord, Statuses, commits, ends, committed, ended, Live}
 use Rattle.transaction_model.specs.LegalTransactions.{Origin, RuleOf, Legal}
+use Rattle.transaction_model.proofs.Endings.{live_not_committed}
 use Rattle.xact_redo.specs.TransactionsOf.{transaction_of, transactions_of}
 use Rattle.row_model.specs.Versions.{Version, Inserter, Nobody, Always, By, version_at}
 use Rattle.row_model.specs.Origins.{LogOrigin, HasFailed, IsLive, committed_in}
@@ -130,28 +131,5 @@ module _ (from : LogOrigin) (rec : Rec) (older : List Rec) (legal : Legal from.t
   lost_later v (WasDeletedBy x by done) = WasDeletedBy x (deleter_same v.deleter ∙ by) (committed_later x done)
 
 -- a live transaction has not committed
-module _ (s : Statuses) where
-  commits_ends : (x xid : ℕ) (kind : Kind) → commits x xid kind ≡ true → ends x xid kind ≡ true
-  commits_ends x xid (Commit subs) h = h
-  commits_ends x xid (Abort subs) h = absurd (false≢true h)
-  commits_ends x xid (Assignment top subs) h = absurd (false≢true h)
-  commits_ends x xid (Running head xids) h = absurd (false≢true h)
-  commits_ends x xid (Shutdown next) h = absurd (false≢true h)
-  commits_ends x xid (Online redo next) h = absurd (false≢true h)
-  commits_ends x xid Other h = absurd (false≢true h)
-
-  committed_ended : (x : ℕ) (log : List TransactionRecord) → committed s x log ≡ true → ended s x log ≡ true
-  unfolding committed ended
-  committed_ended x [] h = or_left ((x == 1 || x == 2) || s.is_committed x) (s.is_aborted x) h
-  committed_ended x (r ∷ older) h =
-      elim (or_cases (commits x r.xid r.kind) (committed s x older) h) [
-        | inl now ↦ or_left (ends x r.xid r.kind) (ended s x older) (commits_ends x r.xid r.kind now)
-        | inr before ↦ or_right (ends x r.xid r.kind) (ended s x older) (committed_ended x older before)
-      ]
-
 pub live_uncommitted : (from : LogOrigin) (log : List Rec) (x : ℕ) → IsLive from log x → committed_in from log x ≡ false
-live_uncommitted from log x live =
-    false_from_ne_true (committed_in from log x)
-    (λ done.
-    both_ways (ended from.transactions.at x (transactions_of log)) live.not_ended
-    (committed_ended from.transactions.at x (transactions_of log) done))
+live_uncommitted from log x live = live_not_committed from.transactions.at x (transactions_of log) live

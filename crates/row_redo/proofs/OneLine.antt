@@ -3,41 +3,12 @@ use Rattle.std.proofs.Common.{◌≡◌, ◌≢◌, ℕ, zero, suc, ◌-◌, ◌
 use Rattle.std.proofs.lemmas.Bool.Decides.{nat_tests}
 use Rattle.heap_tuple.specs.Tuple.{is_tuple, IsTuple}
 use Rattle.heap_page.specs.Item.{Item, unused, normal, redirect, dead, before_trimmed, trimmed, with_line, with_item, item_in, is_normal, numbered, tuple_in}
+use Rattle.heap_page.proofs.LineLists.{item_in-trimmed, item_in-with_line_same, item_in-with_line_other}
 use Rattle.heap_page.specs.Put.{is_free, size_with, put_answer, with_head, set_head_answer}
 use Rattle.heap_page.specs.declared.line.PageError.{PageError}
 use Rattle.heap_page.specs.declared.line.PageError.TheVariants.{Full, NoLine, BadPage}
 use Rattle.heap_redo.specs.TupleHeads.{Head, head_of, head_bytes}
 use Rattle.heap_redo.specs.After.{answered, put, change_head}
-
--- a line shows the same with and without the unused lines at the end
-item_in-before_trimmed : (item : Item) (items : List Item) (k : ℕ) → item_in (before_trimmed item items) k ≡ item_in (item ∷ items) k
-item_in-before_trimmed unused [] zero = refl
-item_in-before_trimmed unused [] (suc k) = refl
-item_in-before_trimmed unused (x ∷ xs) k = refl
-item_in-before_trimmed (normal b) xs k = refl
-item_in-before_trimmed (redirect n) xs k = refl
-item_in-before_trimmed dead xs k = refl
-
-item_in-trimmed : (items : List Item) (k : ℕ) → item_in (trimmed items) k ≡ item_in items k
-item_in-trimmed [] k = refl
-item_in-trimmed (x ∷ xs) zero = item_in-before_trimmed x (trimmed xs) zero
-item_in-trimmed (x ∷ xs) (suc k) = item_in-before_trimmed x (trimmed xs) (suc k) ∙ item_in-trimmed xs k
-
-item_in-same : (items : List Item) (k : ℕ) (item : Item) → item_in (with_line items k item) k ≡ item
-item_in-same [] zero item = refl
-item_in-same [] (suc k) item = item_in-same [] k item
-item_in-same (x ∷ xs) zero item = refl
-item_in-same (x ∷ xs) (suc k) item = item_in-same xs k item
-
-item_in-other : (items : List Item) (k j : ℕ) (item : Item) → j ≢ k → item_in (with_line items k item) j ≡ item_in items j
-item_in-other [] zero zero item n = absurd (n refl)
-item_in-other [] zero (suc j) item n = refl
-item_in-other [] (suc k) zero item n = refl
-item_in-other [] (suc k) (suc j) item n = item_in-other [] k j item (λ e. n (ap suc e))
-item_in-other (x ∷ xs) zero zero item n = absurd (n refl)
-item_in-other (x ∷ xs) zero (suc j) item n = refl
-item_in-other (x ∷ xs) (suc k) zero item n = refl
-item_in-other (x ∷ xs) (suc k) (suc j) item n = item_in-other xs k j item (λ e. n (ap suc e))
 
 -- one line of the items became this one, and the others are as they were
 pub record OneLine (line : ℕ) (item : Item) (items after : List Item) : Type 0 where
@@ -52,13 +23,13 @@ one-line (suc k) item items h =
     let lines = with_line items k item in
     subst (λ (i : ℕ). OneLine (suc k) item items (trimmed (with_line items i item))) (sym same)
     (record {
-      here = item_in-trimmed lines k ∙ item_in-same items k item;
+      here = item_in-trimmed lines k ∙ item_in-with_line_same items k item;
       others = other;
     })
   where
     other : (n : ℕ) → n ≢ suc k → numbered (trimmed (with_line items k item)) n ≡ numbered items n
     other zero n = refl
-    other (suc j) n = item_in-trimmed (with_line items k item) j ∙ item_in-other items k j item (λ e. n (ap suc e))
+    other (suc j) n = item_in-trimmed (with_line items k item) j ∙ item_in-with_line_other items k j item (λ e. n (ap suc e))
 
 -- a tuple was put to a free line
 pub record IsPut (line : ℕ) (tuple : List ℕ) (items after : List Item) : Type 0 where

@@ -11,7 +11,8 @@ use Rattle.row_model.specs.Versions.{Version, version_at}
 use Rattle.row_model.specs.Shows.{ShowsPlace, ShowsBlock}
 use Rattle.row_model.specs.Shown.{HasNone, ShowsSeen, ShowsTable}
 use Rattle.row_redo.proofs.Fitting.{TuplesFit}
-use Rattle.row_redo.proofs.Heads.{same-hoff, tuple-long}
+use Rattle.heap_tuple.proofs.SameTuples.{same_hoff}
+use Rattle.row_redo.proofs.Heads.{tuple-long}
 use Rattle.row_redo.proofs.Places.{SameIn, none_same}
 use Rattle.row_redo.proofs.Apart.{AreApart, AreLost, AreSound, none_lost}
 use Rattle.row_redo.proofs.Later.{block_later}
@@ -93,7 +94,7 @@ shown_behind from log None item v rule shows e = cc
 shown_behind from log (Some w) item v rule (tuple, is, shown) e =
     let same : w ≡ v = cc in
     let long = tuple-long tuple (rule tuple is) in
-    let hoff = same-hoff tuple w.tuple shown.row.bytes in
+    let hoff = same_hoff tuple w.tuple shown.row.bytes in
     subst (λ (u : Version). 23 ≤ hoff_of u.tuple) same (omega (arith, hoff, long.0))
 
 behind_in :

@@ -17,6 +17,7 @@ use Rattle.transaction_model.specs.Transactions.{Kind, Commit, Abort, Shutdown, 
 use Rattle.transaction_model.specs.LegalTransactions.{Legal, NamesLive, Origin, OriginRule, RuleOf}
 use Rattle.transaction_model.specs.StandbyStates.{shown}
 use Rattle.transaction_model.specs.TransactionLaws.{IsCaughtUp, ShowsFinished}
+use Rattle.transaction_model.proofs.Endings.{live_not_committed}
 use Rattle.xact_redo.specs.TransactionsOf.{is_commit, is_shutdown, kind_of, transaction_of, transactions_of}
 use Rattle.row_visibility.specs.Sees.{HasNoStatuses, state_along}
 
@@ -100,24 +101,6 @@ committed_now :
 committed_now xid subs true was x not_yet = or_is (is_among x (xid ∷ subs)) was
 committed_now xid subs false was x not_yet =
     cond_both (is_among x (xid ∷ subs)) false was (λ (t : Bool). t ≡ was) (λ e. sym (not_yet e)) (λ e. refl)
-
--- who commits ends, and a live id has not committed
-commits_ends : (x xid : ℕ) (kind : Kind) → commits x xid kind ≡ true → ends x xid kind ≡ true
-commits_ends x xid (Commit subs) h = h
-commits_ends x xid _ h = absurd (false≢true h)
-
-pub committed_ended : (s : Statuses) (x : ℕ) (log : List TransactionRecord) → committed s x log ≡ true → ended s x log ≡ true
-unfolding committed ended
-committed_ended s x [] h = or_left ((x == 1 || x == 2) || s.is_committed x) (s.is_aborted x) h
-committed_ended s x (r ∷ older) h =
-    elim (or_cases (commits x r.xid r.kind) (committed s x older) h) [
-      | inl e ↦ or_left (ends x r.xid r.kind) (ended s x older) (commits_ends x r.xid r.kind e)
-      | inr e ↦ or_right (ends x r.xid r.kind) (ended s x older) (committed_ended s x older e)
-    ]
-
-live_not_committed : (s : Statuses) (x : ℕ) (log : List TransactionRecord) → Live s x log → committed s x log ≡ false
-live_not_committed s x log l =
-    false_from_ne_true (committed s x log) (λ h. both_ways (ended s x log) l.not_ended (committed_ended s x log h))
 
 -- a checkpoint ends no transaction
 checkpoint_ended :

@@ -60,7 +60,8 @@ pub fn place_of_name(names: &[Name], name: &str) -> Option<usize>
 impl Tables {
     /// The number of the table with this name.
     pub fn find(&self, name: &str) -> Option<u16>
-        ensures { result ≡ first_that (is_named name.now) 0 self.now.tables }
+        ensures first { result ≡ first_that (is_named name.now) 0 self.now.tables }
+        ensures inside { IfSome result (λ table. table < length self.now.tables) }
     {
         match place_named(self.described(), name) {
             Some(place) => Some(place as u16),
@@ -70,7 +71,8 @@ impl Tables {
 
     /// The number of the table with this oid.
     pub fn by_oid(&self, oid: u32) -> Option<u16>
-        ensures { result ≡ first_that (has_oid oid) 0 self.now.tables }
+        ensures first { result ≡ first_that (has_oid oid) 0 self.now.tables }
+        ensures inside { IfSome result (λ table. table < length self.now.tables) }
     {
         match place_with_oid(self.described(), oid) {
             Some(place) => Some(place as u16),
@@ -80,7 +82,8 @@ impl Tables {
 
     /// The number of the table with this file.
     pub fn by_locator(&self, locator: Locator) -> Option<u16>
-        ensures { result ≡ number_at self.now locator }
+        ensures first { result ≡ number_at self.now locator }
+        ensures inside { IfSome result (λ table. table < length self.now.tables) }
     {
         if locator.space != 1663 || locator.db != self.database() {
             return None;

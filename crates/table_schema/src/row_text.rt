@@ -1,11 +1,13 @@
-ghost use Rattle.std.specs.Prelude.{◌≡◌, ◌++◌, ◌∷◌, ◌<◌, false, length, OnOk, option_map, Some};
+ghost use Rattle.std.specs.Prelude.{◌≡◌, ◌++◌, ◌∷◌, [], ◌<◌, ◌≤◌, false, length, take, OnOk, option_map, Some};
+ghost use Rattle.std.specs.Bool.{OnTrue};
 ghost use Rattle.std.specs.List.{flat_map};
 ghost use Rattle.std.specs.Fmt.{digit_glyph};
+ghost use Rattle.heap_tuple.specs.Lent.{meant};
 ghost use Rattle.table_schema.specs.Description.{table_at};
 ghost use Rattle.table_schema.specs.RowText.{bytes_text, cell_text, dash_before, escaped_byte, further_text, hex_byte, row_text, uuid_from};
 
 use crate::tables::Tables;
-use heap_tuple::{Cell, Column, Kind, Row};
+use heap_tuple::{Cell, Column, Kind, Row, Value};
 use itoa::Buffer;
 use pg_types::NoMemory;
 
@@ -56,20 +58,26 @@ fn push_tabbed(kind: Kind, cell: &Cell, out: &mut Vec<u8>) -> Result<(), NoMemor
     push_cell(kind, cell, out)
 }
 
-/// Appends a value.
-#[tactic(auto, unfolding(crate::specs::RowText::cell_text))]
 fn push_cell(kind: Kind, cell: &Cell, out: &mut Vec<u8>) -> Result<(), NoMemory>
     ensures { OnOk result (out.new.items ≡ out.old.items ++ cell_text kind cell.now) }
 {
-    match cell {
-        Cell::Null => out.extend_from_slice(b"\\N")?,
-        Cell::Bool(true) => out.push(b't')?,
-        Cell::Bool(false) => out.push(b'f')?,
-        Cell::Int(number) => {
+    push_value(kind, &cell.lend(), out)
+}
+
+/// Appends a value.
+#[tactic(auto, unfolding(crate::specs::RowText::cell_text))]
+pub fn push_value(kind: Kind, value: &Value<'_>, out: &mut Vec<u8>) -> Result<(), NoMemory>
+    ensures { OnOk result (out.new.items ≡ out.old.items ++ cell_text kind (meant value.now)) }
+{
+    match value {
+        Value::Null => out.extend_from_slice(b"\\N")?,
+        Value::Bool(true) => out.push(b't')?,
+        Value::Bool(false) => out.push(b'f')?,
+        Value::Int(number) => {
             let mut digits = Buffer::new();
             out.extend_from_slice(digits.format(*number).as_bytes())?;
         }
-        Cell::Bytes(bytes) => push_bytes(kind, bytes.as_slice(), out)?,
+        Value::Bytes(bytes) => push_bytes(kind, bytes, out)?,
     }
     Ok(())
 }
@@ -100,10 +108,59 @@ fn push_bytes(kind: Kind, bytes: &[u8], out: &mut Vec<u8>) -> Result<(), NoMemor
 fn push_escaped(bytes: &[u8], out: &mut Vec<u8>) -> Result<(), NoMemory>
     ensures { OnOk result (out.new.items ≡ out.old.items ++ flat_map escaped_byte bytes.now) }
 {
+    if is_plain(bytes) {
+        out.extend_from_slice(bytes)?;
+        return Ok(());
+    }
+    push_runs(bytes, out)
+}
+
+/// Whether no byte of a text needs an escape. All are looked at, so that many are at a time.
+fn is_plain(bytes: &[u8]) -> bool
+    ensures { OnTrue result (flat_map escaped_byte bytes.now ≡ bytes.now) }
+{
+    let mut plain = true;
     for byte in bytes {
-        push_escaped_byte(*byte, out)?;
+        plain &= is_plain_byte(*byte);
+    }
+    plain
+}
+
+/// Whether a byte of a text needs no escape.
+#[tactic(auto, using(std::proofs::lemmas::Bool::Decides::nat_tests))]
+fn is_plain_byte(byte: u8) -> bool
+    ensures { OnTrue result (escaped_byte byte ≡ byte ∷ []) }
+{
+    byte != b'\\' && byte != b'\t' && byte != b'\n' && byte != b'\r'
+}
+
+/// Appends a text, what stands between two escapes at once.
+fn push_runs(bytes: &[u8], out: &mut Vec<u8>) -> Result<(), NoMemory>
+    ensures { OnOk result (out.new.items ≡ out.old.items ++ flat_map escaped_byte bytes.now) }
+{
+    let mut at = 0;
+    while at < bytes.len() {
+        let rest = &bytes[at..];
+        let len = plain_len(rest);
+        out.extend_from_slice(&rest[..len])?;
+        if len < rest.len() {
+            push_escaped_byte(rest[len], out)?;
+        }
+        at += len + 1;
     }
     Ok(())
+}
+
+/// How many bytes of a text stand before the first that needs an escape.
+fn plain_len(bytes: &[u8]) -> usize
+    ensures bound { result ≤ length bytes.now }
+    ensures plain { flat_map escaped_byte (take result bytes.now) ≡ take result bytes.now }
+{
+    let mut len = 0;
+    while len < bytes.len() && is_plain_byte(bytes[len]) {
+        len += 1;
+    }
+    len
 }
 
 fn push_escaped_byte(byte: u8, out: &mut Vec<u8>) -> Result<(), NoMemory>
@@ -132,8 +189,7 @@ fn push_hex(bytes: &[u8], out: &mut Vec<u8>) -> Result<(), NoMemory>
 fn push_hex_byte(byte: u8, out: &mut Vec<u8>) -> Result<(), NoMemory>
     ensures { OnOk result (out.new.items ≡ out.old.items ++ hex_byte byte) }
 {
-    out.push(hex_digit(byte / 16))?;
-    out.push(hex_digit(byte % 16))?;
+    out.extend_from_slice(&[hex_digit(byte / 16), hex_digit(byte % 16)])?;
     Ok(())
 }
 

@@ -82,7 +82,8 @@ impl Described {
     }
 
     pub fn columns(&self) -> &[Column]
-        ensures { result.now ≡ self.now.columns }
+        ensures columns { result.now ≡ self.now.columns }
+        ensures named { length self.now.column_names ≡ length self.now.columns }
     {
         self.read.columns.as_slice()
     }
@@ -190,7 +191,8 @@ impl Tables {
     /// The columns of a table.
     pub fn columns(&self, table: u16) -> &[Column]
         requires { table < length self.now.tables }
-        ensures { Some result.now ≡ option_map (λ t. t.columns) (table_at self.now table) }
+        ensures columns { Some result.now ≡ option_map (λ t. t.columns) (table_at self.now table) }
+        ensures named { IfSome (table_at self.now table) (λ t. length t.column_names ≡ length t.columns) }
     {
         self.table(table).columns()
     }

@@ -1,6 +1,7 @@
 pub mod Decisions
 pub mod Endings
 pub mod IdSets
+pub mod NoIds
 pub mod ParentLists
 pub mod Promotion
 pub mod Replayed

@@ -9,6 +9,7 @@ use Rattle.transaction_model.specs.TransactionLaws.{OneXmin, PromotionLegal}
 use Rattle.transaction_model.proofs.IdSets.{among_first, among_later, up_to_greatest}
 use Rattle.transaction_model.proofs.Endings.{rule_of, legal_rest, ended_by, written, next_before, next_above_seen, next_not_below}
 use Rattle.transaction_model.proofs.Replayed.{oldest_below}
+use Rattle.transaction_model.proofs.NoIds.{nothing_rule}
 
 pub one_xmin : OneXmin
 one_xmin s log a b p q =
@@ -230,28 +231,14 @@ nothing_runs_rule :
 nothing_runs_rule o n start end older next =
     let r : TransactionRecord = record { start = start; end = end; xid = 0; kind = nothing_runs n } in
     let normal = next.normal in
-    record {
-      is_next =
-          next_with o.at n r older next (λ x h. let e = eqb-true 0 x h in omega arith) (omega arith)
-          (λ x h. ltb-true x n h);
-      tops = λ x span l e.
-          let low = span.from_oldest in
-          let high = span.below_next in absurd (omega arith);
-      subs = λ x span l e.
-          let low = span.from_oldest in
-          let high = span.below_next in absurd (omega arith);
-      no_tops = λ x none h l. absurd (false≢true h);
-      spanned = λ x h. absurd (false≢true h);
-      normal = λ x h. absurd (false≢true h);
-      listed = λ x h e. absurd (false≢true h);
-      subs_end = λ x h.
-          elim (cases_lt x n) [
-            | inl g ↦ ended_by o.at x r older (lt-ltb x n g)
-            | inr g ↦ let e = top_anew o n x g in absurd (omega arith)
-          ];
-      latest = ended_by o.at (n - 1) r older (lt-ltb (n - 1) n (omega arith));
-      after_latest = λ x whole low high e. absurd (omega arith);
-    }
+    nothing_rule (assigned_anew n o) n (n - 1) (r ∷ older) (omega arith)
+    (next_with o.at n r older next (λ x h. let e = eqb-true 0 x h in omega arith) (omega arith) (λ x h. ltb-true x n h))
+    (λ x h.
+    elim (cases_lt x n) [
+      | inl g ↦ ended_by o.at x r older (lt-ltb x n g)
+      | inr g ↦ let e = top_anew o n x g in absurd (omega arith)
+    ])
+    (ended_by o.at (n - 1) r older (lt-ltb (n - 1) n (omega arith)))
 
 pub promotion_legal : PromotionLegal
 unfolding Legal

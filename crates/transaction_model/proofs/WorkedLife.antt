@@ -10,6 +10,7 @@ use Rattle.transaction_model.specs.StandbyStates.{Leads, StandbyState, at_start,
 use Rattle.subtrans.specs.Parents.{topmost_of}
 use Rattle.transaction_model.specs.WorkedLife.{worked_origin, worked_head, at_place, while_pending, at_opening, afterwards, worked_first, IsWorkedLife}
 use Rattle.transaction_model.proofs.IdSets.{among_cases, among_first, among_later}
+use Rattle.transaction_model.proofs.NoIds.{none_at}
 
 -- the top transaction of an id
 tops_are :
@@ -39,13 +40,7 @@ none_committed x normal h =
 
 none_ended : (x : ℕ) → 3 ≤ x → ended worked_origin.at x [] ≡ false
 unfolding ended
-none_ended x normal =
-    or_from ((x == 1 || x == 2) || false) false
-    (or_from (x == 1 || x == 2) false
-    (or_from (x == 1) (x == 2) (false_from_ne_true (x == 1) (λ e. let f = eqb-true x 1 e in omega arith))
-    (false_from_ne_true (x == 2) (λ e. let f = eqb-true x 2 e in omega arith)))
-    refl)
-    refl
+none_ended x normal = none_at x normal
 
 worked_rule : OriginRule worked_origin
 unfolding committed

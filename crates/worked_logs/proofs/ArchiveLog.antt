@@ -23,7 +23,8 @@ use Rattle.row_model.specs.LegalSteps.{BirthStep, DeleterStep, KeepsTo, Multixac
 use Rattle.row_model.specs.LegalRows.{AnewRule, BlocksRule, CheckpointRule, ImageRule, LegalLog, OnlineLocks, are_apart, is_redo, is_redo_own, renews_first}
 use Rattle.row_model.specs.WorkedRows.{worked_ids, worked_log, worked_origin, worked_table}
 use Rattle.worked_logs.specs.Clauses.{Clause, Births, Deleters, Removals, Cut, Blocks, Locks, CheckpointLocks, Multixacts, Renews, Apart, Shutdowns, Transactions, NewMultixacts, Redone}
-use Rattle.worked_logs.proofs.OneMore.{Adds, IsBlockRule, WorkedKeeps, among_one, each_keeps, no_blocks, renews_two}
+use Rattle.transaction_model.proofs.NoIds.{among_one}
+use Rattle.worked_logs.proofs.OneMore.{Adds, IsBlockRule, WorkedKeeps, each_keeps, no_blocks, renews_two}
 use Rattle.transaction_model.specs.LegalTransactions.{OriginRule}
 use Rattle.std.specs.Prelude.{pos}
 use Rattle.row_model.specs.RowSteps.{view_before}

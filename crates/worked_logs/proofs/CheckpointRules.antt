@@ -6,7 +6,8 @@ use Rattle.transaction_model.specs.LegalTransactions.{SubsEnd, before, greatest_
 use Rattle.worked_logs.specs.SecondLog.{second_ids}
 use Rattle.worked_logs.specs.CheckpointRules.{CheckpointRulesBreak, IsNextAt, NoOnline, OnlineParts, ShutdownParts, online, shut}
 use Rattle.worked_logs.proofs.NextId.{at_most}
-use Rattle.worked_logs.proofs.SecondIds.{none_at, top_is}
+use Rattle.transaction_model.proofs.NoIds.{none_at}
+use Rattle.worked_logs.proofs.SecondIds.{top_is}
 
 zero_seen : (m x : ℕ) → 0 < m → ((0 == x) || ((0 == x) || false)) ≡ true → x < m
 zero_seen m x some h =

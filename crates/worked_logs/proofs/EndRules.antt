@@ -5,7 +5,7 @@ use Rattle.known_assigned.specs.Ids.{is_among}
 use Rattle.transaction_model.specs.Transactions.{Live, ended}
 use Rattle.worked_logs.specs.SecondLog.{second_ids}
 use Rattle.worked_logs.specs.EndRules.{AbortParts, AreAll, AreLive, AreSubs, CommitParts, EndRulesBreak}
-use Rattle.worked_logs.proofs.OneMore.{among_one}
+use Rattle.transaction_model.proofs.NoIds.{among_one}
 use Rattle.worked_logs.proofs.SecondIds.{below_top, top_is}
 
 live_702 : Live second_ids.at 702 []

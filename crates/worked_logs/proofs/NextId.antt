@@ -8,7 +8,7 @@ use Rattle.xact_redo.specs.TransactionsOf.{transaction_of, transactions_of}
 use Rattle.row_model.specs.WorkedRows.{worked_ids, worked_log}
 use Rattle.worked_logs.specs.BrokenLogs.{checkpoint_again, checkpoint_alone, running_again, shutdown_elsewhere}
 use Rattle.known_assigned.specs.declared.state.RunningHead.{RunningHead}
-use Rattle.worked_logs.proofs.OneMore.{among_one}
+use Rattle.transaction_model.proofs.NoIds.{among_one, none_at, nothing_head, nothing_rule}
 
 -- an id that is seen is among those of the log
 pub at_most : (n m x : ℕ) (b : Bool) → n < m → (b ≡ true → x < m) → ((n == x) || b) ≡ true → x < m
@@ -63,12 +63,7 @@ not_ended x high =
     or_from (is_among x (701 ∷ [])) _ (not_one 701 x (omega arith))
     (or_from (is_among x (700 ∷ [])) _ (not_one 700 x (omega arith))
     (or_from (nat_lt x 700) _ (le-ltb x 700 (omega arith))
-    (or_from ((x == 1 || x == 2) || false) false
-    (or_from (x == 1 || x == 2) false
-    (or_from (x == 1) (x == 2) (false_from_ne_true (x == 1) (λ e. let f = eqb-true x 1 e in omega arith))
-    (false_from_ne_true (x == 2) (λ e. let f = eqb-true x 2 e in omega arith)))
-    refl)
-    refl)))
+    (none_at x (omega arith))))
 
 is_next : IsNext worked_ids.at 702 (transactions_of worked_log)
 unfolding greatest_next transaction_of
@@ -95,35 +90,17 @@ pub alone_rule : OnlineRule worked_ids 0x20001F0 702 (transactions_of worked_log
 unfolding before last_redo starts_at transaction_of
 alone_rule = record { is_start = refl; not_before = omega arith; is_next = is_next }
 
-abbrev again_head : RunningHead
-again_head =
-    record { overflow = false; tops = 0; next = record { 0 = 702 }; oldest = record { 0 = 702 }; latest = record { 0 = 701 } }
-
-pub running_rule : RunningRule worked_ids again_head [] (transactions_of (running_again ∷ worked_log))
+pub running_rule : RunningRule worked_ids (nothing_head 702 701) [] (transactions_of (running_again ∷ worked_log))
 unfolding seen ended greatest_next transaction_of
 running_rule =
-    record {
-      is_next =
-          record {
-            normal = omega arith;
-            above_seen = λ x h. seen_one_more x _ (seen_in_worked x) h;
-            not_below = omega arith;
-            none_ended = λ x high. or_from (nat_lt x 702) _ (le-ltb x 702 high) (not_ended x high);
-          };
-      tops = λ x span l e.
-          let low = span.from_oldest in
-          let high = span.below_next in absurd (omega arith);
-      subs = λ x span l e.
-          let low = span.from_oldest in
-          let high = span.below_next in absurd (omega arith);
-      no_tops = λ x e h l. absurd (false≢true h);
-      spanned = λ x h. absurd (false≢true h);
-      normal = λ x h. absurd (false≢true h);
-      listed = λ x h e. absurd (false≢true h);
-      subs_end = λ x low. or_left (nat_lt x 702) _ (lt-ltb x 702 low);
-      latest = refl;
-      after_latest = λ x whole low high e. absurd (omega arith);
-    }
+    nothing_rule worked_ids 702 701 (transactions_of (running_again ∷ worked_log)) (omega arith)
+    (record {
+      normal = omega arith;
+      above_seen = λ x h. seen_one_more x _ (seen_in_worked x) h;
+      not_below = omega arith;
+      none_ended = λ x high. or_from (nat_lt x 702) _ (le-ltb x 702 high) (not_ended x high);
+    })
+    (λ x low. or_left (nat_lt x 702) _ (lt-ltb x 702 low)) refl
 
 pub online_rule :
     OnlineRule worked_ids 0x20001F0 702 (transactions_of (running_again ∷ worked_log))

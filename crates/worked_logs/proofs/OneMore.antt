@@ -137,7 +137,3 @@ renews_three log redo h from_begin from_first from_second =
         | inr older ↦ renews_two log redo (or_right (redo == 0) ((0x2000028 == redo) || false) older) from_begin from_first
       ]
     ]
-
--- a list of one id
-pub among_one : (x n : ℕ) → is_among x (n ∷ []) ≡ true → n ≡ x
-among_one x n h = elim (or_cases (n == x) false h) [ inl e ↦ eqb-true n x e | inr e ↦ absurd (false≢true e) ]

@@ -12,7 +12,7 @@ use Rattle.known_assigned.specs.declared.state.RunningHead.{RunningHead}
 use Rattle.row_model.specs.WorkedRows.{worked_start, insert_by_700, nothing_runs, online_checkpoint}
 use Rattle.worked_logs.specs.SecondLog.{delete_by_701, insert_by_702, insert_by_703, running_701, second_aborted, second_checkpoint, second_ids, second_log, second_top}
 use Rattle.worked_logs.proofs.NextId.{at_most, below_one, not_one}
-use Rattle.worked_logs.proofs.OneMore.{among_one}
+use Rattle.transaction_model.proofs.NoIds.{among_one, none_at, nothing_head, nothing_rule}
 
 top_from : (x : ℕ) (b : Bool) → (x == 703) ≡ b → ((x ≡ 703) × ((if b then 702 else x) ≡ 702)) ⊎ ((if b then 702 else x) ≡ x)
 top_from x true e = inl (eqb-true x 703 e, refl)
@@ -20,13 +20,6 @@ top_from x false e = inr refl
 
 pub top_is : (x : ℕ) → ((x ≡ 703) × (second_top x ≡ 702)) ⊎ (second_top x ≡ x)
 top_is x = top_from x (x == 703) refl
-
-pub none_at : (x : ℕ) → 3 ≤ x → ((x == 1 || x == 2) || false) ≡ false
-none_at x normal =
-    or_from (x == 1 || x == 2) false
-    (or_from (x == 1) (x == 2) (false_from_ne_true (x == 1) (λ e. let f = eqb-true x 1 e in omega arith))
-    (false_from_ne_true (x == 2) (λ e. let f = eqb-true x 2 e in omega arith)))
-    refl
 
 origin_rule : OriginRule second_ids
 unfolding committed ended
@@ -87,35 +80,18 @@ both_rule older top sub =
       ];
     }
 
-abbrev nothing_head : ℕ → ℕ → RunningHead
-nothing_head n m =
-    record { overflow = false; tops = 0; next = record { 0 = n }; oldest = record { 0 = n }; latest = record { 0 = m } }
-
 -- a running record without ids, by which each id below its next one has ended
-nothing_rule :
+nothing_more :
     (n m : ℕ) (now : List TransactionRecord) → n ≤ 702 → n ≤ m + 1 → IsNext second_ids.at n now
     → ((x : ℕ) → x < n → ended second_ids.at x now ≡ true) → ended second_ids.at m now ≡ true
     → RunningRule second_ids (nothing_head n m) [] now
-nothing_rule n m now low last next ends latest =
-    record {
-      is_next = next;
-      tops = λ x span l e.
-          let above = span.from_oldest in
-          let below = span.below_next in absurd (omega arith);
-      subs = λ x span l e.
-          let above = span.from_oldest in
-          let below = span.below_next in absurd (omega arith);
-      no_tops = λ x e h l. absurd (false≢true h);
-      spanned = λ x h. absurd (false≢true h);
-      normal = λ x h. absurd (false≢true h);
-      listed = λ x h e. absurd (false≢true h);
-      subs_end = λ x below. elim (top_is x) [
-        | inl own ↦ (let t = own.1 in absurd (omega arith))
-        | inr t ↦ ends x (subst (λ (y : ℕ). y < n) t below)
-      ];
-      latest = latest;
-      after_latest = λ x whole above below e. absurd (omega arith);
-    }
+nothing_more n m now low last next ends latest =
+    nothing_rule second_ids n m now last next
+    (λ x below. elim (top_is x) [
+      | inl own ↦ (let t = own.1 in absurd (omega arith))
+      | inr t ↦ ends x (subst (λ (y : ℕ). y < n) t below)
+    ])
+    latest
 
 abbrev at_running : List TransactionRecord
 at_running = transactions_of (nothing_runs ∷ [])
@@ -137,7 +113,7 @@ first_legal running online live = (
       tt,
       (
         record { is_start = online.is_start; not_before = online.not_before; is_next = online.is_next },
-        (nothing_rule 700 699 at_running (omega arith) (omega arith) running.is_next running.subs_end running.latest, origin_rule),
+        (nothing_more 700 699 at_running (omega arith) (omega arith) running.is_next running.subs_end running.latest, origin_rule),
       ),
     ),
   ),
@@ -191,7 +167,7 @@ running_next =
 running_rule : RunningRule second_ids (nothing_head 701 700) [] (transactions_of (running_701 ∷ worked_first))
 unfolding ended transaction_of
 running_rule =
-    nothing_rule 701 700 (transactions_of (running_701 ∷ worked_first)) (omega arith) (omega arith) running_next
+    nothing_more 701 700 (transactions_of (running_701 ∷ worked_first)) (omega arith) (omega arith) running_next
     (λ x low. or_left (nat_lt x 701) _ (lt-ltb x 701 low)) refl
 
 checkpoint_rule : OnlineRule second_ids 0x2000178 701 (transactions_of (running_701 ∷ worked_first)) (transactions_of second_checkpoint)

@@ -2,15 +2,16 @@
 use Rattle.std.proofs.Common.{◌≡◌, ℕ, ◌⊎◌, inl, inr, List, [], ◌∷◌, Result, Ok, Err, refl, sym, subst}
 use Rattle.wal_reader.specs.Told.{Told}
 use Rattle.wal_bodies.specs.declared.types.Rec.{Rec}
+use Rattle.standby_core.specs.Standby.{described_in}
 use Rattle.standby_model.specs.Archived.{told_by}
 use Rattle.standby_model.specs.Log.{IsLog, Stands, Stop, next_of}
 use Rattle.row_model.specs.LegalRows.{LegalLog}
 use Rattle.row_model.specs.WorkedRows.{worked_origin}
 use Rattle.scan_model.specs.Run.{origin}
-use Rattle.scan_model.specs.Tables.{described}
 use Rattle.worked_archive.specs.WorkedArchive.{IsWorkedArchive, files, known, log}
 use Rattle.worked_logs.specs.ArchiveLog.{ArchiveIsLegal}
 use Rattle.worked_logs.specs.Clauses.{FrontsAreLegal}
+use Rattle.worked_premise.specs.WorkedSchema.{tables}
 use Rattle.worked_premise.specs.Premise.{FilesAreLegal}
 use Rattle.worked_premise.proofs.Told.{is_log}
 
@@ -27,9 +28,9 @@ not_both r a e p q = cc
 
 module _ (told : Told) (from : ℕ) where
   moved :
-      (one other : List Rec) (found : Result Rec Stop) → other ≡ one → next_of told described from other ≡ found
-      → next_of told described from one ≡ found
-  moved one other found e f = subst (λ (l : List Rec). next_of told described from l ≡ found) e f
+      (one other : List Rec) (found : Result Rec Stop) → other ≡ one → next_of told (described_in tables) from other ≡ found
+      → next_of told (described_in tables) from one ≡ found
+  moved one other found e f = subst (λ (l : List Rec). next_of told (described_in tables) from l ≡ found) e f
 
   is_whole : (log : List Rec) → IsFront log log
   is_whole [] = refl
@@ -37,22 +38,22 @@ module _ (told : Told) (from : ℕ) where
 
   -- with the record that follows a front is one, unless it is the whole log
   one_more :
-      (log other : List Rec) (rec : Rec) → Stands told described from log → IsFront other log
-      → next_of told described from other ≡ Ok rec → (other ≡ log) ⊎ IsFront (rec ∷ other) log
+      (log other : List Rec) (rec : Rec) → Stands told (described_in tables) from log → IsFront other log
+      → next_of told (described_in tables) from other ≡ Ok rec → (other ≡ log) ⊎ IsFront (rec ∷ other) log
   one_more [] other rec s front next = inl front
   one_more (newest ∷ older) other rec (found, s) (inl e) next = inl e
   one_more (newest ∷ older) other rec (found, s) (inr front) next =
       elim (one_more older other rec s front next) [
         | inl e ↦
-            let same : newest ≡ rec = one_ok (next_of told described from older) newest rec found (moved older other (Ok rec) e next) in
+            let same : newest ≡ rec = one_ok (next_of told (described_in tables) from older) newest rec found (moved older other (Ok rec) e next) in
             let both : ◌≡◌ {A = List Rec} (rec ∷ other) (newest ∷ older) = cc in
             inr (inl both)
         | inr longer ↦ inr (inr longer)
       ]
 
   is_front :
-      (log : List Rec) (stop : Stop) → IsLog told described from log stop → (other : List Rec)
-      → Stands told described from other → IsFront other log
+      (log : List Rec) (stop : Stop) → IsLog told (described_in tables) from log stop → (other : List Rec)
+      → Stands told (described_in tables) from other → IsFront other log
   is_front log stop whole [] s = at_begin log
     where
       at_begin : (log : List Rec) → IsFront [] log
@@ -60,7 +61,7 @@ module _ (told : Told) (from : ℕ) where
       at_begin (rec ∷ older) = inr (at_begin older)
   is_front log stop whole (rec ∷ older) (next, s) =
       elim (one_more log older rec whole.stands (is_front log stop whole older s) next) [
-        | inl e ↦ absurd (not_both (next_of told described from log) rec stop (moved log older (Ok rec) e next) whole.stops)
+        | inl e ↦ absurd (not_both (next_of told (described_in tables) from log) rec stop (moved log older (Ok rec) e next) whole.stops)
         | inr front ↦ front
       ]
 

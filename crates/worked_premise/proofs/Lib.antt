@@ -2,4 +2,5 @@ mod Answered
 mod Bytes
 mod Fronts
 mod Replayed
+mod Schema
 mod Told

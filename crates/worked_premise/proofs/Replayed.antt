@@ -17,24 +17,27 @@ use Rattle.tuple_visibility.specs.Visible.{deleter_of, inserter_counts, visible_
 use Rattle.xact_redo.specs.State.{before_records, state_after}
 use Rattle.wal_reader.specs.declared.types.EndWhy.TheVariants.{Zero}
 use Rattle.wal_bodies.specs.declared.types.Rec.{Rec}
+use Rattle.schema_file.specs.SchemaFile.{Read}
 use Rattle.seq_scan.specs.BlockRows.{block_rows, rows_from}
 use Rattle.standby_core.specs.Standby.{Standby, at_origin}
 use Rattle.standby_model.specs.Log.{Stop, Ended}
 use Rattle.scan_model.specs.Run.{replayed, start}
-use Rattle.scan_model.specs.Scan.{Answers, AnswersLog, AnswersNext, AnswersOpening, AnswersRows, Scanned, is_admitted, is_there, page_of, pages_from}
+use Rattle.scan_model.specs.Scan.{Answers, AnswersLog, AnswersNext, Scans, Starts, AnswersOpening, AnswersRows, Scanned, is_admitted, is_there, page_of, pages_from}
 use Rattle.worked_archive.specs.WorkedArchive.{IsWorkedArchive, files, log}
-use Rattle.worked_premise.specs.Premise.{reply}
+use Rattle.worked_premise.specs.Premise.{reply, words}
+use Rattle.worked_premise.specs.WorkedSchema.{base, table_t, tables}
+use Rattle.worked_premise.proofs.Schema.{schema_is_read}
 use Rattle.worked_premise.proofs.Told.{is_log}
 
 abbrev or_start : Result Standby RedoFault → Standby
 or_start (Ok node) = node
-or_start (Err fault) = start
+or_start (Err fault) = start tables
 
 -- the standby that replayed the log
 abbrev node : Standby
-node = or_start (replayed log)
+node = or_start (replayed tables log)
 
-is_replayed : replayed log ≡ Ok node
+is_replayed : replayed tables log ≡ Ok node
 unfolding redone redone_at redone_block after after_change changed_page changed put_listed put tuple_of head_bytes put_answer is_tuple is_tuple_head with_item number_at at_origin
 is_replayed = refl
 
@@ -61,7 +64,7 @@ count block =
           ∙ sym (le-ltb block 1 (omega (arith, ne)))
     ]
 
-says : reply ≡ Scanned node.at.0 0 1 (pages_from (page_of node 0) 0 1)
+says : reply ≡ Scanned node.at.0 table_t 1 (pages_from (page_of node 0) 0 1)
 unfolding redone redone_at redone_block after after_change changed_page changed put_listed put tuple_of head_bytes put_answer is_tuple is_tuple_head with_item number_at at_origin view_with with_seen grown state_after before_records after_observe after_running past_oldest made_anew after_end unobserved pages_from block_rows rows_from visible_of inserter_counts deleter_of in_progress take_of row_of cells_from column_value has_value span_of varlena_at cell_of max_of is_lock_only
 says = refl
 
@@ -71,10 +74,14 @@ answers_rows = record { blocks = 1; count = count; says = says }
 answers_end : AnswersNext (codes "t") node (Err (Ended Zero)) reply
 answers_end = subst (λ (is : Bool). AnswersOpening node 0 is reply) (sym admitted) answers_rows
 
-pub answers : IsWorkedArchive → Answers (codes "scan" ∷ codes "t" ∷ []) files reply
+-- the words begin a scan over the tables that the text describes
+pub starts : Starts words base (Scans tables (codes "t"))
+starts = (Read (Ok tables), (Ok tables, schema_is_read, refl), refl)
+
+pub answers : IsWorkedArchive → Answers words base files reply
 answers worked =
     let whole = is_log worked in
-    let answer : AnswersLog (codes "t") files reply =
+    let answer : AnswersLog tables (codes "t") files reply =
     record {
       log = log;
       stands = whole.stands;
@@ -83,4 +90,4 @@ answers worked =
       says =
           subst (λ (r : Result Rec Stop). AnswersNext (codes "t") node r reply) (sym whole.stops) answers_end;
     } in
-    answer
+    (Scans tables (codes "t"), starts, answer)

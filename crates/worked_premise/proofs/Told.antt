@@ -10,10 +10,11 @@ use Rattle.wal_reader.specs.Step.{Entry, step}
 use Rattle.wal_reader.specs.Told.{Told}
 use Rattle.pg_types.specs.declared.names.Lsn.{Lsn}
 use Rattle.wal_bodies.specs.declared.types.Rec.{Rec}
+use Rattle.standby_core.specs.Standby.{described_in}
 use Rattle.standby_model.specs.Archived.{told_by}
 use Rattle.standby_model.specs.Log.{IsLog, Stands, Ended, end_of, link_after, next_of, record_at, typed_of, unless_refused}
 use Rattle.scan_model.specs.Run.{origin}
-use Rattle.scan_model.specs.Tables.{described}
+use Rattle.worked_premise.specs.WorkedSchema.{tables}
 use Rattle.worked_archive.specs.WorkedArchive.{AreTyped, IsWorkedArchive, entries, files, log}
 
 -- each record in typed form has the place of its entry
@@ -26,18 +27,18 @@ AreThere (entry ∷ others) (rec ∷ recs) =
 
 -- where the next record is looked for
 record Meets (told : Told) (from : ℕ) (recs : List Rec) (at : ℕ) (prev : PrevRule) : Type 0 where
-  stands : Stands told described from recs
+  stands : Stands told (described_in tables) from recs
   end : end_of from recs ≡ at
   link : link_after recs ≡ prev
 
 moved :
     (told : Told) (from here : ℕ) (link : PrevRule) (recs : List Rec) (found : Result Entry NoRecord)
     → end_of from recs ≡ here → link_after recs ≡ link → step told here link ≡ found
-    → next_of told described from recs ≡ typed_of described found
+    → next_of told (described_in tables) from recs ≡ typed_of (described_in tables) found
 moved told from here link recs found e l is =
-    ap (λ (at : ℕ). record_at told described at (link_after recs)) e
-    ∙ ap (λ (p : PrevRule). record_at told described here p) l
-    ∙ ap (typed_of described) is
+    ap (λ (at : ℕ). record_at told (described_in tables) at (link_after recs)) e
+    ∙ ap (λ (p : PrevRule). record_at told (described_in tables) here p) l
+    ∙ ap (typed_of (described_in tables)) is
 
 meets :
     (told : Told) (from : ℕ) (others : List Entry) (recs : List Rec) (at : ℕ) (prev : PrevRule)
@@ -60,7 +61,7 @@ meets told from (entry ∷ others) (rec ∷ recs) at prev (here, link, s, found,
 are_there : AreThere entries log
 are_there = (refl, refl, (refl, refl, (refl, refl, (refl, refl, (refl, refl, tt)))))
 
-pub is_log : IsWorkedArchive → IsLog (told_by files) described origin.redo.0 log (Ended Zero)
+pub is_log : IsWorkedArchive → IsLog (told_by files) (described_in tables) origin.redo.0 log (Ended Zero)
 is_log worked =
     let whole = worked.is_log in
     let met = meets (told_by files) 0x2000028 entries log 0x2000168 whole.prev whole.stands worked.are_typed are_there in

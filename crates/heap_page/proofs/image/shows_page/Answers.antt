@@ -7,4 +7,4 @@ pub returns-then-image-gt8192 : goal.returns-then-image-gt8192
 returns-then-image-gt8192 c = long-refused c.args.image.now.hole_at c.args.image.now.bytes.now c.if-image-gt8192.true
 
 pub returns : goal.returns
-returns c = c.check.ensures ∙ ap is_page c.assemble_image.ensures
+returns c = c.check_parts.ensures ∙ ap is_page c.image.ensures

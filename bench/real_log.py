@@ -1,9 +1,9 @@
-"""The logs of bench/recovery: how each is made by an installed PostgreSQL, and the folder that it is kept in.
+"""A log that an installed PostgreSQL wrote: how it is made, and the folder that it is kept in.
 
-A folder of a log has
+The folder of a log has
 
     archive/            the segments as the standby reads them: page magic of release 16, system 7
-    base/schema.toml    the description of the tables `t` and `u`
+    base/schema.toml    the description of its tables
     server/             the base backup that the log goes on from, as the server takes it
     about.json          the server's release and system identifier, the sizes, and the records by kind
 """
@@ -16,26 +16,32 @@ import sys
 
 from server import MAGIC, MAGICS, SYSTEM, Server, fresh, give, readdress_all
 
-HERE = os.path.dirname(os.path.abspath(__file__))
 DATABASE = 16384
 FIRST = "000000010000000000000002"
 START = "0/2000028"
 SECOND = 3 << 24  # where the next segment begins: the first has what the backup leaves alone
-# The workload's folder: its name, how full inserts leave the pages of `t`, and the call that makes it, of the position
-# LIMIT.
-WORKLOADS = {
-    "single": ("single-row inserts", 100, "CALL single('LIMIT')"),
-    "batches": ("batches of 20 rows", 100, "CALL batches('LIMIT')"),
-    "copy": ("COPY", 100, "CALL copies('LIMIT', 'FOLDER/rows')"),
-    "mix": ("update mix", 40, "CALL mix('LIMIT', 0)"),
-    "images": ("update mix with images", 40, "CALL mix('LIMIT', EVERY)"),
-}
 # Nothing but the workload writes into the log, and it ends in zeros.
 WRITING = {
     "fsync": "off", "synchronous_commit": "off", "wal_level": "replica", "max_wal_size": "100GB",
     "checkpoint_timeout": "1d", "wal_keep_size": "100GB", "wal_recycle": "off", "shared_buffers": "1GB",
 }
-TABLES = {"t": [("id", "int4"), ("note", "text")], "u": [("id", "int4")]}
+
+
+class Workload:
+    """Tables by name, with their columns' names and types, and what a table's WITH has; SQL that is run before the log
+    begins, and the command that makes the log. In it LIMIT stands for the position that ends it, FOLDER for a folder
+    that the server may write, and EVERY for an eighth of the log in bytes.
+
+    The table `u` of one column is always there, and has no row that is seen."""
+
+    def __init__(self, name, tables, options, setup, command):
+        self.name, self.options, self.setup, self.command = name, options, setup, command
+        self.tables = dict(tables, u=[("id", "int4")])
+
+    def commands(self):
+        made = ["CREATE TABLE %s (%s) %s" % (name, ", ".join("%s %s" % column for column in columns), self.options)
+                for name, columns in self.tables.items()]
+        return made + self.setup
 
 
 def schema(server, database, tables):
@@ -80,21 +86,16 @@ def last_position(server, folder):
     return re.findall(r"at ([0-9A-F]+/[0-9A-F]+)", done.stderr)[-1]
 
 
-def make(log, name, size, work):
+def make(log, workload, size, work):
     """Makes the log of a workload, of so many MiB, in the folder `log`."""
-    server = Server(fresh(work))
-    with open(os.path.join(HERE, "workloads.sql")) as file:
-        procedures = file.read()
-    _, fill, call = WORKLOADS[name]
-    tables = ["CREATE TABLE t (id int4, note text) WITH (fillfactor = %d)" % fill, "CREATE TABLE u (id int4)"]
-    prepare(server, [*tables, procedures])
-    limit = "0/%X" % (SECOND + (size << 20))
-    call = call.replace("LIMIT", limit).replace("FOLDER", work).replace("EVERY", str(size << 20 >> 3))
-    server.sql("bench", call)
-    # A commit that waits writes the whole log.
-    server.sql("bench", "SET synchronous_commit = on; INSERT INTO u VALUES (1); DELETE FROM u")
-    text = schema(server, "bench", TABLES)
-    server.stop()
+    with Server(fresh(work)) as server:
+        prepare(server, workload.commands())
+        limit = "0/%X" % (SECOND + (size << 20))
+        command = workload.command.replace("LIMIT", limit).replace("FOLDER", work).replace("EVERY", str(size << 20 >> 3))
+        server.sql("bench", command)
+        # A commit that waits writes the whole log.
+        server.sql("bench", "SET synchronous_commit = on; INSERT INTO u VALUES (1); DELETE FROM u")
+        text = schema(server, "bench", workload.tables)
     keep(server, log, text)
     shutil.rmtree(work)
 
