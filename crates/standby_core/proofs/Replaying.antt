@@ -1,7 +1,9 @@
 -- The steps of a replay put together.
-use Rattle.std.proofs.Common.{◌≡◌, ◌⊎◌, inl, inr, ℕ, zero, suc, ◌+◌, ◌-◌, ◌≤◌, ◌^◌, Option, Some, None, Result, Ok, Err, refl, sym, ◌∙◌, ap, subst, arith, true}
+use Rattle.std.proofs.Common.{◌≡◌, ◌⊎◌, inl, inr, ℕ, zero, suc, ◌+◌, ◌-◌, ◌≤◌, ◌^◌, List, Option, Some, None, Result, Ok, Err, refl, sym, ◌∙◌, ap, subst, arith, true}
 use Rattle.std.specs.Prelude.{IsTrue}
+use Rattle.pg_types.specs.declared.names.Locator.{Locator}
 use Rattle.pg_types.specs.declared.names.Lsn.{Lsn}
+use Rattle.wal_record.specs.declared.types.PrevRule.TheVariants.{Is}
 use Rattle.wal_record.specs.Decoded.{decoded}
 use Rattle.wal_record.specs.Record.{Record}
 use Rattle.wal_reader.specs.declared.types.EndWhy.{EndWhy}
@@ -22,7 +24,7 @@ use Rattle.wal_bodies.specs.declared.types.Rec.{Rec}
 use Rattle.wal_bodies.specs.Typed.{typed}
 use Rattle.heap_redo.specs.declared.fault.RedoFault.{RedoFault}
 use Rattle.heap_redo.specs.declared.fault.RedoFault.TheVariants as redo
-use Rattle.heap_redo.specs.Redone.{Stands}
+use Rattle.heap_redo.specs.Redone.{Outcome, Stands, View}
 use Rattle.table_schema.specs.Description.{locators}
 use Rattle.standby_core.specs.declared.node.Node.{Node}
 use Rattle.standby_core.specs.declared.types.NodeFault.{NodeFault}
@@ -33,8 +35,10 @@ use Rattle.standby_core.specs.declared.types.Refusal.{Refusal as What}
 use Rattle.standby_model.specs.Log as log
 use Rattle.standby_model.specs.Log.{Stop as LogStop, record_at, stop_by, typed_of, unless_refused}
 use Rattle.standby_core.specs.Standby.{Standby, described_to, told_to}
-use Rattle.standby_core.specs.Replay.{IsRefusedAs, by_blocks, by_record, Replays, ReplaysSome, redo_refusal}
-use Rattle.standby_core.specs.Steps.{GivenReplays, Gives, RecReplays, TypedForm, body_refusal, refusing, unread}
+use Rattle.standby_core.specs.declared.types.Stopped.{Stopped}
+use Rattle.standby_core.specs.declared.types.Stopped.TheVariants as stopped
+use Rattle.standby_core.specs.Replay.{IsApplied, IsRefusedAs, by_blocks, by_record, Replays, ReplaysSome, redo_refusal}
+use Rattle.standby_core.specs.Steps.{GivenRedone, GivenReplays, Gives, IsRedone, Redone, TypedRedone, body_refusal, stopped_by, unread}
 use Rattle.standby_core.specs.View.{ReplaysTold, standby}
 use Rattle.standby_core.proofs.Refusing.{redone_not_memory}
 
@@ -42,64 +46,70 @@ use Rattle.standby_core.proofs.Refusing.{redone_not_memory}
 pub same_lsn : (a b : Lsn) → a.0 ≡ b.0 → a ≡ b
 same_lsn a b e = let made : ℕ → Lsn = λ n. record { 0 = n } in ap made e
 
--- a record in typed form stands where it was read
-pub gives_typed :
-    (reader : Standing) (start end : Lsn) (rec : Rec) → Gives reader start end → (rec.start ≡ start) × (rec.end ≡ end)
-    → Gives reader rec.start rec.end
-gives_typed reader start end rec gives places = let a = places.0 in let b = places.1 in cc
+-- the position, its record, and what is due there
+abbrev pub due_at : Standby → Lsn → Lsn → Record → Result Rec LogStop
+due_at node start end found = typed_of (described_to node) (Ok (record { start = start.0; end = end.0; record_ = found }))
 
--- where a record in typed form is replayed, the record that was given is
-pub given_replayed : (reader : Standing) (start end : Lsn) (old new : Standby) (rec : Rec) (result : Result Replayed NodeFault)
-    → TypedForm reader start end old.tables (Ok rec) → RecReplays rec result old new → GivenReplays reader start end result old new
-given_replayed reader start end old new rec result form replays =
-    record { found = form.found; given = form.given; replays = by form.form result replays }
-  where
-    due : Result Rec LogStop
-    due = typed_of (described_to old) (Ok (record { start = start.0; end = end.0; record_ = form.found }))
-
-    with_due : (r : Result Replayed NodeFault) → due ≡ Ok rec → RecReplays rec r old new → Replays r old new due
-    with_due (Ok (Applied s a)) e h = (rec, e, h.0, h.1, h.2)
-    with_due (Ok (AtEnd lsn why)) e h = absurd h
-    with_due (Ok (Refused lsn what)) e h = (by_blocks rec h.0.0 e h.0.1 h.0.2, h.1)
-    with_due (Err Archive) e h = absurd h
-    with_due (Err Memory) e (inl same) = inl same
-    with_due (Err Memory) e (inr ran) = inr (rec, e, ran)
-
-    by : (Ok rec ≡ Err body.Memory) ⊎ (Ok rec ≡ typed form.found start end old.tables.database (locators old.tables)) → (r : Result Replayed NodeFault)
-        → RecReplays rec r old new → Replays r old new due
-    by (inl e) r h = cc
-    by (inr e) r h = with_due r (ap unless_refused (sym e)) h
-
--- where a record has no typed form, it is refused
-pub given_refused : (reader : Standing) (start end : Lsn) (node : Standby) (at : Lsn) (found : BodyFault)
-    → at ≡ node.at → TypedForm reader start end node.tables (Err found)
-    → GivenReplays reader start end (refusing at (body_refusal found)) node node
-given_refused reader start end node at found is form =
-    record { found = form.found; given = form.given; replays = by found form.form }
-  where
-    by :
-        (f : BodyFault) → (let r : Result Rec BodyFault = Err f in (r ≡ Err body.Memory) ⊎ (r ≡ typed form.found start end node.tables.database (locators node.tables)))
-        → Replays (refusing at (body_refusal f)) node node
-        (typed_of (described_to node) (Ok (record { start = start.0; end = end.0; record_ = form.found })))
-    by (body.Length lsn) (inl e) = cc
-    by (body.Length lsn) (inr e) = (by_record log.Length (ap unless_refused (sym e)) refl refl, is)
-    by (body.Unsupported lsn what) (inl e) = cc
-    by (body.Unsupported lsn what) (inr e) = (by_record (log.Unsupported what) (ap unless_refused (sym e)) refl refl, is)
-    by body.Memory h = inl refl
+-- a record that has no typed form is refused
+pub body_refused : (start end : Lsn) (node : Standby) (found : Record) (fault : BodyFault)
+    → Err fault ≡ typed found start end node.tables.database (locators node.tables)
+    → IsRefusedAs node node (due_at node start end found) (body_refusal fault)
+body_refused start end node found body.Length e = by_record log.Length (ap unless_refused (sym e)) refl refl
+body_refused start end node found (body.Unsupported what) e = by_record (log.Unsupported what) (ap unless_refused (sym e)) refl refl
 
 -- where redo refuses a record, it is refused at its blocks
-pub blocks_refused : (rec : Rec) (old new : Standby) (at : Lsn) (found : RedoFault)
-    → at ≡ old.at → Stands rec (locators old.tables) old.blocks new.blocks (Err found) → RecReplays rec (refusing at (redo_refusal found)) old new
-blocks_refused rec old new at (redo.PageMissing lsn place) is (inl h) = let e = h.0 in cc
-blocks_refused rec old new at (redo.PageMissing lsn place) is (inr e) = ((redo.PageMissing lsn place, e, refl), is)
-blocks_refused rec old new at (redo.NoTuple lsn place) is (inl h) = let e = h.0 in cc
-blocks_refused rec old new at (redo.NoTuple lsn place) is (inr e) = ((redo.NoTuple lsn place, e, refl), is)
-blocks_refused rec old new at (redo.PageFull lsn place) is (inl h) = let e = h.0 in cc
-blocks_refused rec old new at (redo.PageFull lsn place) is (inr e) = ((redo.PageFull lsn place, e, refl), is)
-blocks_refused rec old new at (redo.BadPage lsn place) is (inl h) = let e = h.0 in cc
-blocks_refused rec old new at (redo.BadPage lsn place) is (inr e) = ((redo.BadPage lsn place, e, refl), is)
-blocks_refused rec old new at redo.Memory is (inl h) = inr h.1
-blocks_refused rec old new at redo.Memory is (inr e) = absurd (redone_not_memory rec (locators old.tables) rec.blocks old.blocks new.blocks e)
+pub blocks_stopped : (rec : Rec) (known : List Locator) (old new : View) (fault : RedoFault)
+    → Stands rec known old new (Err fault) → TypedRedone rec known (Err (stopped_by (redo_refusal fault))) old new
+blocks_stopped rec known old new (redo.PageMissing lsn place) (inl h) = let e = h.0 in cc
+blocks_stopped rec known old new (redo.PageMissing lsn place) (inr e) = (redo.PageMissing lsn place, e, refl)
+blocks_stopped rec known old new (redo.NoTuple lsn place) (inl h) = let e = h.0 in cc
+blocks_stopped rec known old new (redo.NoTuple lsn place) (inr e) = (redo.NoTuple lsn place, e, refl)
+blocks_stopped rec known old new (redo.PageFull lsn place) (inl h) = let e = h.0 in cc
+blocks_stopped rec known old new (redo.PageFull lsn place) (inr e) = (redo.PageFull lsn place, e, refl)
+blocks_stopped rec known old new (redo.BadPage lsn place) (inl h) = let e = h.0 in cc
+blocks_stopped rec known old new (redo.BadPage lsn place) (inr e) = (redo.BadPage lsn place, e, refl)
+blocks_stopped rec known old new redo.Memory (inl h) = inr h.1
+blocks_stopped rec known old new redo.Memory (inr e) = absurd (redone_not_memory rec known rec.blocks old new e)
+
+-- where a record stops, so does the record that was found
+pub stops_found : (start end : Lsn) (rec : Rec) (old new : Standby) (found : Record) (why : Stopped)
+    → Ok rec ≡ typed found start end old.tables.database (locators old.tables)
+    → TypedRedone rec (locators old.tables) (Err why) old.blocks new.blocks
+    → new ≡ record old { blocks = new.blocks }
+    → Redone start end (Err why) old new (due_at old start end found)
+stops_found start end rec old new found (stopped.Refused what) e h same = (by_blocks rec h.0 (ap unless_refused (sym e)) h.1 h.2, same)
+stops_found start end rec old new found stopped.Memory e (inl h) same = (inl h, same)
+stops_found start end rec old new found stopped.Memory e (inr ran) same = (inr (rec, ap unless_refused (sym e), ran), same)
+
+-- where the record that was given was applied, or stopped, it is replayed
+pub given_passed : (reader : Standing) (start end : Lsn) (awaited : Option Lsn) (old mid new : Standby)
+    → GivenRedone reader start end (Ok awaited) old mid → new ≡ record mid { at = end; prev = Is start; awaited = awaited }
+    → GivenReplays reader start end (Ok (Applied start end)) old new
+given_passed reader start end awaited old mid new h moved =
+    let r = h.redone in
+    record {
+      found = h.found;
+      given = h.given;
+      replays = (r.0, r.1, applied r.0 r.2 r.3 r.4, r.3, r.4);
+    }
+  where
+    applied : (rec : Rec) → IsRedone rec awaited old mid → rec.start ≡ start → rec.end ≡ end → IsApplied rec old new
+    applied rec is a b =
+        let e = is.others in
+        let w = is.awaited_is in
+        record {
+          blocks = is.blocks ∙ ap (λ (view : View). let o : Outcome = (view, Ok tt) in o) (sym (ap (λ (node : Standby). node.blocks) moved));
+          others = moved ∙ search (e, w, a, b);
+        }
+
+pub given_stopped : (reader : Standing) (start end : Lsn) (what : What) (old new : Standby)
+    → GivenRedone reader start end (Err (stopped.Refused what)) old new → (at : Lsn) → at ≡ old.at
+    → GivenReplays reader start end (Ok (Refused at what)) old new
+given_stopped reader start end what old new h at is = record { found = h.found; given = h.given; replays = (h.redone.0, is) }
+
+pub given_out : (reader : Standing) (start end : Lsn) (old new : Standby)
+    → GivenRedone reader start end (Err stopped.Memory) old new → GivenReplays reader start end (Err Memory) old new
+given_out reader start end old new h = record { found = h.found; given = h.given; replays = h.redone.0 }
 
 -- what is kept of the log is no part of what a replay does
 refused_moved : (old new : Standby) (kept : Kept) (found : Result Rec LogStop) (what : What)

@@ -1,5 +1,6 @@
 -- What the steps of a replay say.
-use Rattle.std.specs.Prelude.{◌≡◌, ◌⊎◌, Option, Some, None, Result, Ok, Err}
+use Rattle.std.specs.Prelude.{◌≡◌, ◌⊎◌, List, Option, Some, None, Result, Ok, Err}
+use Rattle.pg_types.specs.declared.names.Locator.{Locator}
 use Rattle.pg_types.specs.declared.names.Lsn.{Lsn}
 use Rattle.wal_record.specs.Decoded.{decoded}
 use Rattle.wal_record.specs.Record.{Record}
@@ -9,30 +10,31 @@ use Rattle.wal_reader.specs.Standing.{Standing}
 use Rattle.wal_bodies.specs.declared.types.Rec.{Rec}
 use Rattle.wal_bodies.specs.declared.types.BodyFault.{BodyFault}
 use Rattle.wal_bodies.specs.declared.types.BodyFault.TheVariants as body
-use Rattle.wal_bodies.specs.Typed.{typed}
 use Rattle.heap_redo.specs.declared.fault.RedoFault.{RedoFault}
-use Rattle.heap_redo.specs.Redone.{RanOut, redone}
-use Rattle.table_schema.specs.Description.{Description, locators}
+use Rattle.heap_redo.specs.Redone.{RanOut, View, redone}
+use Rattle.xact_redo.specs.State.{state_after}
+use Rattle.table_schema.specs.Description.{locators}
 use Rattle.standby_core.specs.declared.types.Refusal.{Refusal}
 use Rattle.standby_core.specs.declared.types.Refusal.TheVariants.{Compressed, TooLong, Length, Unsupported}
 use Rattle.standby_core.specs.declared.types.Replayed.{Replayed}
 use Rattle.standby_core.specs.declared.types.Replayed.TheVariants.{Applied, AtEnd, Refused}
 use Rattle.standby_core.specs.declared.types.NodeFault.{NodeFault}
 use Rattle.standby_core.specs.declared.types.NodeFault.TheVariants.{Archive, Memory}
-use Rattle.standby_model.specs.Log.{typed_of}
+use Rattle.standby_model.specs.Log.{Stop, typed_of}
 use Rattle.standby_core.specs.Standby.{Standby, described_to}
-use Rattle.standby_core.specs.Replay.{IsApplied, Replays, redo_refusal}
+use Rattle.standby_core.specs.declared.types.Stopped.{Stopped}
+use Rattle.standby_core.specs.declared.types.Stopped.TheVariants as stopped
+use Rattle.standby_core.specs.Replay.{IsRefusedAs, MayBeRedone, Replays, awaited_after, redo_refusal}
 
--- a refusal as an answer; where there is none, memory ran out
-abbrev pub refusing : Lsn → Option Refusal → Result Replayed NodeFault
-refusing lsn (Some what) = Ok (Refused lsn what)
-refusing lsn None = Err Memory
+-- the refusal that a body's fault is
+abbrev pub body_refusal : BodyFault → Refusal
+body_refusal body.Length = Length
+body_refusal (body.Unsupported what) = Unsupported what
 
--- the refusal that a body's fault is; none for want of memory
-abbrev pub body_refusal : BodyFault → Option Refusal
-body_refusal (body.Length lsn) = Some Length
-body_refusal (body.Unsupported lsn what) = Some (Unsupported what)
-body_refusal body.Memory = None
+-- why a record stopped, by its refusal; where there is none, memory ran out
+abbrev pub stopped_by : Option Refusal → Stopped
+stopped_by (Some what) = stopped.Refused what
+stopped_by None = stopped.Memory
 
 -- the answer where the reader has none
 abbrev pub unread : ReadFault → Result Replayed NodeFault
@@ -49,11 +51,33 @@ Gives reader start end = reader.given ≡ Some (start, end)
 abbrev pub IsGiven : Standing → Lsn → Record → Type 0
 IsGiven reader start found = decoded reader.source.text start.0 reader.prev ≡ Ok found
 
--- the typed form of the record that was given
-pub record TypedForm (reader : Standing) (start end : Lsn) (tables : Description) (result : Result Rec BodyFault) : Type 0 where
+-- what a record in typed form does to the blocks, and why it stops
+abbrev pub TypedRedone : Rec → List Locator → Result (Unit {0}) Stopped → View → View → Type 0
+TypedRedone rec known (Ok done) old new = redone rec known rec.blocks old ≡ (new, Ok tt)
+TypedRedone rec known (Err (stopped.Refused what)) old new =
+    (fault : RedoFault) × (redone rec known rec.blocks old ≡ (new, Err fault)) × (redo_refusal fault ≡ Some what)
+TypedRedone rec known (Err stopped.Memory) old new = (new ≡ old) ⊎ RanOut rec known old new
+
+-- a record has changed the blocks and the state of transactions, and this end of a backup is awaited then
+pub record IsRedone (rec : Rec) (awaited : Option Lsn) (old new : Standby) : Type 0 where
+  pub blocks : redone rec (locators old.tables) rec.blocks old.blocks ≡ (new.blocks, Ok tt)
+  pub awaited_is : awaited ≡ awaited_after rec.kind old.awaited
+  pub others : new ≡ record old { blocks = new.blocks; transactions = state_after rec old.transactions }
+
+-- what a record that was found does to the blocks and to the state of transactions, and what is awaited then; where it
+-- stops the state is as before
+abbrev pub Redone : Lsn → Lsn → Result (Option Lsn) Stopped → Standby → Standby → Result Rec Stop → Type 0
+Redone start end (Ok awaited) old new found =
+    (rec : Rec) × (found ≡ Ok rec) × IsRedone rec awaited old new × (rec.start ≡ start) × (rec.end ≡ end)
+Redone start end (Err (stopped.Refused what)) old new found = IsRefusedAs old new found what × (new ≡ record old { blocks = new.blocks })
+Redone start end (Err stopped.Memory) old new found = MayBeRedone old new found × (new ≡ record old { blocks = new.blocks })
+
+-- what the record that was given does so
+pub record GivenRedone (reader : Standing) (start end : Lsn) (result : Result (Option Lsn) Stopped) (old new : Standby) : Type 0 where
   pub found : Record
   pub given : IsGiven reader start found
-  pub form : (result ≡ Err body.Memory) ⊎ (result ≡ typed found start end tables.database (locators tables))
+  pub redone :
+      Redone start end result old new (typed_of (described_to old) (Ok (record { start = start.0; end = end.0; record_ = found })))
 
 -- the record that was given is replayed
 pub record GivenReplays (reader : Standing) (start end : Lsn) (result : Result Replayed NodeFault) (old new : Standby) : Type 0 where
@@ -61,16 +85,6 @@ pub record GivenReplays (reader : Standing) (start end : Lsn) (result : Result R
   pub given : IsGiven reader start found
   pub replays :
       Replays result old new (typed_of (described_to old) (Ok (record { start = start.0; end = end.0; record_ = found })))
-
--- a record in typed form is replayed
-abbrev pub RecReplays : Rec → Result Replayed NodeFault → Standby → Standby → Type 0
-RecReplays rec (Ok (Applied start at)) old new = IsApplied rec old new × (rec.start ≡ start) × (rec.end ≡ at)
-RecReplays rec (Ok (AtEnd lsn why)) old new = ⊥
-RecReplays rec (Ok (Refused lsn what)) old new =
-    ((fault : RedoFault) × (redone rec (locators old.tables) rec.blocks old.blocks ≡ (new.blocks, Err fault)) × (redo_refusal fault ≡ Some what))
-    × (lsn ≡ old.at)
-RecReplays rec (Err Archive) old new = ⊥
-RecReplays rec (Err Memory) old new = (new.blocks ≡ old.blocks) ⊎ RanOut rec (locators old.tables) old.blocks new.blocks
 
 -- where a record was applied the node stands at its end
 abbrev pub EndsAt : Result Replayed NodeFault → Lsn → Standby → Type 0

@@ -1,11 +1,15 @@
-ghost use Rattle.std.specs.Prelude.{◌≡◌, length};
+ghost use Rattle.std.specs.Prelude.{◌≡◌, ◌≤◌, length, OnOk, OnErr};
 ghost use Rattle.pg_types.specs.Names.{IsSegmentSize};
 ghost use Rattle.pg_types.specs.SegmentSizes.{IsSegmentSize-prop};
-ghost use Rattle.page_store.specs.Content.{table_count};
+ghost use Rattle.page_store.specs.Content.{content, table_count};
+ghost use Rattle.table_schema.specs.Description.{locators};
+ghost use Rattle.heap_redo.specs.Redone.{view_of};
+ghost use Rattle.wal_bodies.specs.Xids.{AreXidsShort};
+ghost use Rattle.xact_redo.specs.State.{state_after, transactions};
 ghost use Rattle.standby_core.specs.Replay.{awaited_after, redo_refusal};
-ghost use Rattle.standby_core.specs.Steps.{body_refusal, refusing, unread};
+ghost use Rattle.standby_core.specs.Steps.{TypedRedone, body_refusal, stopped_by, unread};
 
-use crate::types::{NodeFault, NodeParts, NodeStatus, Origin, Refusal, Replayed};
+use crate::types::{NodeFault, NodeParts, NodeStatus, Origin, Refusal, Replayed, Stopped};
 use heap_redo::RedoFault;
 use outside::Archive;
 use page_store::Pool;
@@ -39,19 +43,16 @@ pub struct Node {
 }
 
 impl Node {
-    ghost use Rattle.std.specs.Prelude.{◌≡◌, ◌≢◌, IfOk, Ok, Err, Some, length, ℕ, ◌≤◌};
+    ghost use Rattle.std.specs.Prelude.{◌≢◌, IfOk, Ok, Err, Some, ℕ};
     ghost use Rattle.outside.specs.Faults.{Rose};
     ghost use Rattle.wal_archive.specs.ArchiveLog.{archived_bytes};
-    ghost use Rattle.page_store.specs.Content.{content};
-    ghost use Rattle.heap_redo.specs.Redone.{view_of};
     ghost use Rattle.wal_record.specs.Decoded.{decoded};
     ghost use Rattle.wal_reader.specs.Calls.{WhereTold};
     ghost use Rattle.wal_reader.specs.Standing.{Answers, BearsPosition, MovesOn as ReadsOn, StandsStill};
     ghost use Rattle.wal_reader.specs.Step.{step};
-    ghost use Rattle.wal_bodies.specs.Xids.{AreXidsShort};
     ghost use Rattle.standby_core.specs.Standby.{at_origin};
-    ghost use Rattle.standby_core.specs.Replay.{MovesOn, ReplaysSome, StaysUnlessApplied, awaited_after};
-    ghost use Rattle.standby_core.specs.Steps.{EndsAt, GivenReplays, Gives, RecReplays, TypedForm};
+    ghost use Rattle.standby_core.specs.Replay.{MovesOn, ReplaysSome, StaysUnlessApplied};
+    ghost use Rattle.standby_core.specs.Steps.{EndsAt, GivenRedone, GivenReplays, Gives};
     ghost use Rattle.standby_core.specs.View.{HasParts, ReplaysTold, standby, status_of};
 
     /// A node at an origin, over a pool that was made for as many tables as are described. It awaits the end
@@ -176,6 +177,7 @@ impl Node {
     }
 
     /// Replays the record that the reader gave last.
+    #[tactic(auto, unfolding(crate::specs::View::standby))]
     fn apply(&mut self, start: Lsn, end: Lsn) -> Result<Replayed, NodeFault>
         requires { Gives self.old.reader start end }
         ensures replays { GivenReplays self.old.reader start end result (standby self.old) (standby self.new) }
@@ -186,68 +188,74 @@ impl Node {
         ensures kept { (standby self.new).kept ≡ (standby self.old).kept }
         ensures no_archive { result ≡ Err NodeFault.Archive → ⊥ }
     {
-        match self.typed(start, end) {
-            Ok(rec) => self.apply_typed(&rec),
-            Err(fault) => refuse_body(self.at, fault),
+        match self.redo(start, end) {
+            Ok(awaited) => {
+                self.pass(start, end, awaited);
+                Ok(Replayed::Applied { start, at: end })
+            }
+            Err(Stopped::Refused(what)) => Ok(Replayed::Refused { lsn: self.at, what }),
+            Err(Stopped::Memory) => Err(NodeFault::Memory),
         }
     }
 
-    /// The typed form of the record that the reader gave last.
-    fn typed(&self, start: Lsn, end: Lsn) -> Result<Rec, BodyFault>
-        requires { Gives self.now.reader start end }
-        ensures form { TypedForm self.now.reader start end self.now.tables result }
-        ensures xids { IfOk result AreXidsShort }
-        ensures places { IfOk result (λ rec. (rec.start ≡ start) × (rec.end ≡ end)) }
-    {
-        body(
-            self.alloc,
-            &self.reader.record(),
-            start,
-            end,
-            self.tables.database(),
-            self.tables.locators(),
-        )
-    }
-
-    /// Replays a record in typed form, which the reader gave last.
+    /// Changes the blocks and the state of transactions by the record that the reader gave last, and
+    /// answers where the backup began whose end is awaited after it.
     #[tactic(auto, unfolding(crate::specs::View::standby))]
-    fn apply_typed(&mut self, rec: &Rec) -> Result<Replayed, NodeFault>
-        requires given { Gives self.old.reader rec.now.start rec.now.end }
-        requires xids { AreXidsShort rec.now }
-        ensures replays { RecReplays rec.now result (standby self.old) (standby self.new) }
-        ensures stays { StaysUnlessApplied result (standby self.old) (standby self.new) }
-        ensures ends { EndsAt result rec.now.end (standby self.new) }
-        ensures tables { (standby self.new).tables ≡ (standby self.old).tables }
-        ensures segsize { (standby self.new).segsize ≡ (standby self.old).segsize }
-        ensures kept { (standby self.new).kept ≡ (standby self.old).kept }
+    fn redo(&mut self, start: Lsn, end: Lsn) -> Result<Option<Lsn>, Stopped>
+        requires { Gives self.old.reader start end }
+        ensures redone { GivenRedone self.old.reader start end result (standby self.old) (standby self.new) }
+        ensures reader { self.new.reader ≡ self.old.reader }
+        ensures at { self.new.at ≡ self.old.at }
     {
-        reserve(rec, &mut self.state)?;
-        match heap_redo::redo(rec, &self.tables, &mut self.pool) {
-            Ok(()) => {}
-            Err(fault) => return refuse_blocks(self.at, fault),
+        let view = self.reader.record();
+        let known = self.tables.locators();
+        match body(&view, start, end, self.tables.database(), known) {
+            Ok(rec) => {
+                redo_typed(&rec, &self.tables, &mut self.pool, &mut self.state)?;
+                Ok(awaited_after(&rec.kind, self.awaited))
+            }
+            Err(fault) => Err(Stopped::Refused(refused_body(fault))),
         }
-        xact_redo::redo(rec, &mut self.state);
-        self.pass(rec);
-        Ok(Replayed::Applied {
-            start: rec.start,
-            at: rec.end,
-        })
     }
 
     /// Moves past a record that was applied.
     #[tactic(auto, unfolding(crate::specs::View::standby))]
-    fn pass(&mut self, rec: &Rec)
-        requires { Gives self.old.reader rec.now.start rec.now.end }
-        ensures { standby self.new ≡ record (standby self.old) { at = rec.now.end; prev = PrevRule.Is rec.now.start; awaited = awaited_after rec.now.kind self.old.awaited } }
+    fn pass(&mut self, start: Lsn, end: Lsn, awaited: Option<Lsn>)
+        requires { Gives self.old.reader start end }
+        ensures { standby self.new ≡ record (standby self.old) { at = end; prev = PrevRule.Is start; awaited = awaited } }
     {
-        self.awaited = awaited_after(&rec.kind, self.awaited);
-        self.at = rec.end;
+        self.awaited = awaited;
+        self.at = end;
         self.reader.accept();
     }
 }
 
+/// Changes the blocks and the state of transactions by a record. The room for the state is made before a
+/// block is changed.
+fn redo_typed(
+    rec: &Rec<'_>,
+    tables: &Tables,
+    pool: &mut Pool,
+    state: &mut XactState,
+) -> Result<(), Stopped>
+    requires tables { length tables.now.tables ≤ table_count pool.old }
+    requires xids { AreXidsShort rec.now }
+    ensures redone { TypedRedone rec.now (locators tables.now) result (view_of (content pool.old)) (view_of (content pool.new)) }
+    ensures applied { OnOk result (transactions state.new ≡ state_after rec.now (transactions state.old)) }
+    ensures stays { OnErr result (transactions state.new ≡ transactions state.old) }
+    ensures same_tables { table_count pool.new ≡ table_count pool.old }
+{
+    reserve(rec, state)?;
+    match heap_redo::redo(rec, tables, pool) {
+        Ok(()) => {}
+        Err(fault) => return Err(stopped_at(fault)),
+    }
+    xact_redo::redo(rec, state);
+    Ok(())
+}
+
 /// Where the backup began whose end is awaited after a record of this kind.
-fn awaited_after(kind: &RecKind, awaited: Option<Lsn>) -> Option<Lsn>
+fn awaited_after(kind: &RecKind<'_>, awaited: Option<Lsn>) -> Option<Lsn>
     ensures { result ≡ awaited_after kind.now awaited }
 {
     match (kind, awaited) {
@@ -269,28 +277,25 @@ fn unread(fault: ReadFault) -> Result<Replayed, NodeFault>
     Ok(Replayed::Refused { lsn, what })
 }
 
-/// The answer where the record at this position has no typed form.
-fn refuse_body(lsn: Lsn, fault: BodyFault) -> Result<Replayed, NodeFault>
-    ensures { result ≡ refusing lsn (body_refusal fault) }
+/// Why a record has no typed form.
+fn refused_body(fault: BodyFault) -> Refusal
+    ensures { result ≡ body_refusal fault }
 {
-    let what = match fault {
-        BodyFault::Length { .. } => Refusal::Length,
-        BodyFault::Unsupported { what, .. } => Refusal::Unsupported(what),
-        BodyFault::Memory => return Err(NodeFault::Memory),
-    };
-    Ok(Replayed::Refused { lsn, what })
+    match fault {
+        BodyFault::Length => Refusal::Length,
+        BodyFault::Unsupported(what) => Refusal::Unsupported(what),
+    }
 }
 
-/// The answer where the record at this position is refused at its blocks.
-fn refuse_blocks(lsn: Lsn, fault: RedoFault) -> Result<Replayed, NodeFault>
-    ensures { result ≡ refusing lsn (redo_refusal fault) }
+/// Why a record is not applied to its blocks.
+fn stopped_at(fault: RedoFault) -> Stopped
+    ensures { result ≡ stopped_by (redo_refusal fault) }
 {
-    let what = match fault {
+    Stopped::Refused(match fault {
         RedoFault::PageMissing { place, .. } => Refusal::NoPage { block: place.block },
         RedoFault::NoTuple { place, .. } => Refusal::NoTuple { place },
         RedoFault::PageFull { place, .. } => Refusal::PageFull { place },
         RedoFault::BadPage { place, .. } => Refusal::BadPage { block: place.block },
-        RedoFault::Memory => return Err(NodeFault::Memory),
-    };
-    Ok(Replayed::Refused { lsn, what })
+        RedoFault::Memory => return Stopped::Memory,
+    })
 }

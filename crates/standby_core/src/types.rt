@@ -91,3 +91,21 @@ impl From<NoMemory> for NodeFault {
         NodeFault::Memory
     }
 }
+
+/// Why a record that was read is not applied.
+#[derive(Clone, Copy, Debug)]
+pub(crate) enum Stopped {
+    Refused(Refusal),
+    Memory,
+}
+
+impl From<NoMemory> for Stopped {
+    ghost use Rattle.std.specs.Prelude.{◌≡◌};
+    ghost use Rattle.standby_core.specs.declared.types.Stopped.TheVariants.{Memory};
+
+    ghost from_gives = { λ _ stopped. stopped ≡ Memory };
+
+    fn from(_: NoMemory) -> Stopped {
+        Stopped::Memory
+    }
+}

@@ -9,6 +9,7 @@ use Rattle.wal_record.specs.declared.types.RecordHead.{RecordHead}
 use Rattle.wal_bodies.specs.declared.types.Rec.{Rec}
 use Rattle.wal_bodies.specs.declared.types.RecKind.{RecKind}
 use Rattle.wal_bodies.specs.declared.types.RecKind.TheVariants.{Ended, Running}
+use Rattle.wal_bodies.specs.Typed.{ended_in}
 use Rattle.wal_bodies.specs.Xids.{record_xids}
 use Rattle.commit_log.specs.Log.{changed_after, changed_at, initial_status, reserved_end, status_after, status_of}
 use Rattle.subtrans.specs.declared.Pair.{Pair}
@@ -101,11 +102,13 @@ listed_running (Running tops subs overflow next oldest latest xids) = xids
 listed_running _ = []
 
 -- the room that a record needs: for the statuses that it sets, for the ids that it shows to run, and for those of
--- a running record that have not ended, which are chosen beforehand, with the greatest one that has
+-- a running record that have not ended, which are chosen beforehand, with the greatest one that has; the
+-- subtransactions that it ends are kept
 pub record HasRoom (rec : Rec) (state : XactState) : Type 0 where
   pub statuses : All (λ (x : Xid). x.0 < reserved_end state.log) (ended_ids rec.head rec.kind)
   pub live : numbers state.scratch ≡ still_live (status_of state.log) (numbers (listed_running rec.kind))
   pub ended : state.ended.0 ≡ greatest_ended (status_of state.log) (numbers (listed_running rec.kind))
+  pub tree : state.tree ≡ ended_in rec.kind
   pub places :
       count_added state.known.known (last_named_in rec.head rec.kind) + length state.scratch ≤ state.known.spare
 

@@ -9,7 +9,7 @@ ghost use Rattle.xact_redo.specs.TransactionsOf.{is_shutdown};
 use crate::state::XactState;
 use known_assigned::RunningHead;
 use pg_types::{Lsn, Status, Xid};
-use wal_bodies::{Rec, RecKind};
+use wal_bodies::{Rec, RecKind, Xids};
 use wal_record::RecordHead;
 
 /// Applies a record to the state. The ids that it names are observed first, whatever its kind
@@ -20,16 +20,15 @@ use wal_record::RecordHead;
 /// It takes no memory. It costs a constant time for each id that is new, a search by halving and a
 /// write for each id that ends, and of a running record what `KnownAssigned::running` costs.
 #[tactic(auto, unfolding(crate::specs::State::state_after, crate::specs::State::transactions))]
-pub fn redo(rec: &Rec, state: &mut XactState)
+pub fn redo(rec: &Rec<'_>, state: &mut XactState)
     requires ids { AreIdsInRange rec.now }
     requires room { HasRoom rec.now state.old }
     ensures { transactions state.new ≡ state_after rec.now (transactions state.old) }
 {
     state.known.observe(last_named(rec));
     match &rec.kind {
-        RecKind::Ended { xids, .. } => {
-            let status = outcome_of(rec.head);
-            end_tree(rec.head.xid, xids.as_slice(), status, rec.end, state);
+        RecKind::Ended { .. } => {
+            end_tree(rec.head.xid, outcome_of(rec.head), rec.end, state);
         }
         RecKind::Running {
             tops,
@@ -54,18 +53,18 @@ pub fn redo(rec: &Rec, state: &mut XactState)
 }
 
 /// The greatest id that the record names, in its header or as ended.
-pub(crate) fn last_named(rec: &Rec) -> Xid
+pub(crate) fn last_named(rec: &Rec<'_>) -> Xid
     ensures { result.0 ≡ last_named_in rec.now.head rec.now.kind }
 {
     match &rec.kind {
-        RecKind::Ended { xids, .. } => greatest_of(rec.head.xid, xids.as_slice()),
+        RecKind::Ended { xids, .. } => greatest_of(rec.head.xid, xids.again()),
         _ => rec.head.xid,
     }
 }
 
 /// The greatest of these.
-fn greatest_of(first: Xid, rest: &[Xid]) -> Xid
-    ensures { result.0 ≡ greatest (numbers (first ∷ rest.now)) }
+fn greatest_of(first: Xid, rest: Xids<'_>) -> Xid
+    ensures { result.0 ≡ greatest (numbers (first ∷ rest.entry)) }
 {
     let mut most = first.0;
     for xid in rest {
@@ -85,15 +84,16 @@ fn outcome_of(head: RecordHead) -> Status
     }
 }
 
-/// The transaction and its subtransactions end so, by a record that ends at this position.
+/// The transaction and its subtransactions, which `reserve` kept, end so, by a record that ends at this
+/// position.
 #[tactic(auto, unfolding(crate::specs::State::transactions))]
-fn end_tree(xid: Xid, subs: &[Xid], status: Status, at: Lsn, state: &mut XactState)
-    requires ids { All (λ (x : Xid). x.0 ≤ 2 ^ 63 + 2 ^ 32) (xid ∷ subs.now) }
-    requires room { All (λ (x : Xid). x.0 < reserved_end state.old.log) (xid ∷ subs.now) }
-    ensures { transactions state.new ≡ record (transactions state.old) { statuses = status_after (transactions state.old).statuses (xid ∷ subs.now) status; changed = changed_after (transactions state.old).changed (xid ∷ subs.now) at.0; known = after_end (transactions state.old).known (numbers (xid ∷ subs.now)) } }
+fn end_tree(xid: Xid, status: Status, at: Lsn, state: &mut XactState)
+    requires ids { All (λ (x : Xid). x.0 ≤ 2 ^ 63 + 2 ^ 32) (xid ∷ state.old.tree) }
+    requires room { All (λ (x : Xid). x.0 < reserved_end state.old.log) (xid ∷ state.old.tree) }
+    ensures { transactions state.new ≡ record (transactions state.old) { statuses = status_after (transactions state.old).statuses (xid ∷ state.old.tree) status; changed = changed_after (transactions state.old).changed (xid ∷ state.old.tree) at.0; known = after_end (transactions state.old).known (numbers (xid ∷ state.old.tree)) } }
 {
-    state.log.set_tree(xid, subs, status, at);
-    state.known.end_tree(xid, subs);
+    state.log.set_tree(xid, state.tree.as_slice(), status, at);
+    state.known.end_tree(xid, state.tree.as_slice());
 }
 
 /// The listed transactions run, but those that have ended, as `reserve` found them.

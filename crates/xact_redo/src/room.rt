@@ -1,6 +1,7 @@
 ghost use Rattle.std.specs.Prelude.{◌≡◌, ℕ, ◌<◌, [], All, IfOk, OnOk};
 ghost use Rattle.pg_types.specs.declared.names.Xid.{Xid};
 ghost use Rattle.commit_log.specs.Log.{changed_at, reserved_end, status_of};
+ghost use Rattle.wal_bodies.specs.Typed.{ended_in};
 ghost use Rattle.known_assigned.specs.Ids.{numbers};
 ghost use Rattle.xact_redo.specs.State.{HasRoom, ended_ids, greatest_ended, listed_running, still_live, transactions};
 
@@ -8,19 +9,20 @@ use crate::records::{has_ended, last_named};
 use crate::state::XactState;
 use commit_log::CommitLog;
 use pg_types::{NoMemory, Xid, XidList};
-use wal_bodies::{Rec, RecKind};
+use wal_bodies::{Rec, RecKind, Xids};
 
 /// Makes all the room that the record needs, so that its `redo` takes no memory, and changes nothing else
 /// that contracts see; also where memory is wanting. The room lasts until the state changes.
 ///
-/// It costs a look-up in the commit log for each id that a running record lists, and the memory that is
-/// taken anew.
+/// It costs a copy of each id that the record ends, a look-up in the commit log for each id that a running
+/// record lists, and the memory that is taken anew.
 #[tactic(auto, unfolding(crate::specs::State::transactions))]
-pub fn reserve(rec: &Rec, state: &mut XactState) -> Result<(), NoMemory>
+pub fn reserve(rec: &Rec<'_>, state: &mut XactState) -> Result<(), NoMemory>
     ensures state { transactions state.new ≡ transactions state.old }
     ensures room { OnOk result (HasRoom rec.now state.new) }
 {
     reserve_statuses(rec, &mut state.log)?;
+    keep_tree(rec, &mut state.tree)?;
     state.ended = keep_live(rec, &state.log, &mut state.scratch)?;
     let added = state.known.would_add(last_named(rec));
     match added.checked_add(state.scratch.len() as u64) {
@@ -30,7 +32,7 @@ pub fn reserve(rec: &Rec, state: &mut XactState) -> Result<(), NoMemory>
 }
 
 /// Makes room for the statuses that the record sets.
-fn reserve_statuses(rec: &Rec, log: &mut CommitLog) -> Result<(), NoMemory>
+fn reserve_statuses(rec: &Rec<'_>, log: &mut CommitLog) -> Result<(), NoMemory>
     ensures statuses { (x : ℕ) → status_of log.new x ≡ status_of log.old x }
     ensures changed { (n : ℕ) → changed_at log.new n ≡ changed_at log.old n }
     ensures room { OnOk result (All (λ (x : Xid). x.0 < reserved_end log.new) (ended_ids rec.now.head rec.now.kind)) }
@@ -41,32 +43,54 @@ fn reserve_statuses(rec: &Rec, log: &mut CommitLog) -> Result<(), NoMemory>
     }
 }
 
+/// Keeps the subtransactions that the record ends.
+fn keep_tree(rec: &Rec<'_>, tree: &mut XidList) -> Result<(), NoMemory>
+    ensures { OnOk result (tree.new ≡ ended_in rec.now.kind) }
+{
+    tree.clear();
+    match &rec.kind {
+        RecKind::Ended { xids, .. } => push_all(xids.again(), tree),
+        _ => Ok(()),
+    }
+}
+
+/// Puts the ids into an empty list.
+fn push_all(xids: Xids<'_>, list: &mut XidList) -> Result<(), NoMemory>
+    requires { list.old ≡ [] }
+    ensures { OnOk result (list.new ≡ xids.entry) }
+{
+    for xid in xids {
+        list.push(xid)?;
+    }
+    Ok(())
+}
+
 /// Keeps those of the ids that the record lists as running which the commit log does not show ended, and
 /// answers the greatest of the others, or 0.
-fn keep_live(rec: &Rec, log: &CommitLog, live: &mut XidList) -> Result<Xid, NoMemory>
+fn keep_live(rec: &Rec<'_>, log: &CommitLog, live: &mut XidList) -> Result<Xid, NoMemory>
     ensures live { OnOk result (numbers live.new ≡ still_live (status_of log.now) (numbers (listed_running rec.now.kind))) }
     ensures ended { IfOk result (λ ended. ended.0 ≡ greatest_ended (status_of log.now) (numbers (listed_running rec.now.kind))) }
 {
     live.clear();
     match &rec.kind {
-        RecKind::Running { xids, .. } => part_live(xids.as_slice(), log, live),
+        RecKind::Running { xids, .. } => part_live(xids.again(), log, live),
         _ => Ok(Xid(0)),
     }
 }
 
 /// Puts those of the ids that the commit log does not show ended into an empty list, and answers the
 /// greatest of the others, or 0. Each id is looked up once.
-fn part_live(xids: &[Xid], log: &CommitLog, live: &mut XidList) -> Result<Xid, NoMemory>
+fn part_live(xids: Xids<'_>, log: &CommitLog, live: &mut XidList) -> Result<Xid, NoMemory>
     requires { live.old ≡ [] }
-    ensures live { OnOk result (numbers live.new ≡ still_live (status_of log.now) (numbers xids.now)) }
-    ensures ended { IfOk result (λ ended. ended.0 ≡ greatest_ended (status_of log.now) (numbers xids.now)) }
+    ensures live { OnOk result (numbers live.new ≡ still_live (status_of log.now) (numbers xids.entry)) }
+    ensures ended { IfOk result (λ ended. ended.0 ≡ greatest_ended (status_of log.now) (numbers xids.entry)) }
 {
     let mut most = 0;
     for xid in xids {
-        if has_ended(log.get(*xid)) {
+        if has_ended(log.get(xid)) {
             most = most.max(xid.0);
         } else {
-            live.push(*xid)?;
+            live.push(xid)?;
         }
     }
     Ok(Xid(most))

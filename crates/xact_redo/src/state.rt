@@ -18,6 +18,8 @@ pub struct XactState {
     pub known: KnownAssigned,
     /// The ids of a running record that have not ended, from its `reserve` to its `redo`.
     pub scratch: XidList,
+    /// The subtransactions that a record ends, from its `reserve` to its `redo`.
+    pub tree: XidList,
     /// The greatest id of a running record that has ended, or 0, from its `reserve` to its `redo`.
     pub ended: Xid,
 }
@@ -35,6 +37,7 @@ impl XactState {
             subs: Subtrans::new(alloc),
             known: KnownAssigned::new(alloc),
             scratch: XidList::new(alloc),
+            tree: XidList::new(alloc),
             ended: Xid(0),
         }
     }
