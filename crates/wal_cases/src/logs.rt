@@ -43,7 +43,7 @@ pub fn answer(rt: &HostRuntime, question: &[&str], text: &[u8]) -> Result<(), Wr
             ref asked @ ..,
         ] => {
             let (from, prev) = (position(from)?, prev_rule(before)?);
-            let mut log = log_of(rt.alloc(), from, text, 8192, &[number_u64(call)?])?;
+            let mut log = log_of(rt.alloc(), from, text, 8192, &CUTS, &[number_u64(call)?])?;
             let mut reader = reader_at(rt.alloc(), from, prev)?;
             let mut out = String::new(rt.alloc());
             ask(&mut out, &mut reader, &mut log, asked)?;
@@ -55,18 +55,21 @@ pub fn answer(rt: &HostRuntime, question: &[&str], text: &[u8]) -> Result<(), Wr
     }
 }
 
-fn log_of(
+/// A log in memory, whose answers are cut and fail at these places and calls.
+pub fn log_of(
     alloc: Global,
     from: Lsn,
     text: &[u8],
     most: usize,
+    cuts: &[u64],
     fails: &[u64],
 ) -> Result<MemoryLog, Wrong> {
     let steady = SteadyLog::new(alloc, from, text)?;
-    Ok(MemoryLog::new(alloc, steady, most, &CUTS, fails)?)
+    Ok(MemoryLog::new(alloc, steady, most, cuts, fails)?)
 }
 
-fn reader_at(alloc: Global, from: Lsn, prev: PrevRule) -> Result<Reader, Wrong> {
+/// A reader of such a log of system 7.
+pub fn reader_at(alloc: Global, from: Lsn, prev: PrevRule) -> Result<Reader, Wrong> {
     if !is_segment_size(SEGMENT) {
         return Err(Wrong::Line);
     }
@@ -81,7 +84,7 @@ fn read(
     text: &[u8],
     most: usize,
 ) -> Result<String, Wrong> {
-    let mut log = log_of(alloc, from, text, most, &[])?;
+    let mut log = log_of(alloc, from, text, most, &CUTS, &[])?;
     let mut reader = reader_at(alloc, from, prev)?;
     let mut out = String::new(alloc);
     for _ in 0..9u32 {
@@ -155,7 +158,7 @@ fn show_fault(out: &mut String, fault: ReadFault) -> Result<(), Wrong> {
     Ok(())
 }
 
-fn why_text(why: EndWhy) -> &'static str {
+pub fn why_text(why: EndWhy) -> &'static str {
     match why {
         EndWhy::Missing => "missing",
         EndWhy::Page => "page",

@@ -5,6 +5,7 @@
 #![tactic(auto)]
 
 mod archives;
+mod cuts;
 mod encodings;
 mod folders;
 mod headers;
@@ -24,7 +25,7 @@ fn main(rt: HostRuntime) -> anyhow::Result<()> {
             wrong,
         })?;
     }
-    Ok(())
+    Ok(cuts::answer_all(&rt)?)
 }
 
 /// Answers a case. A remark and an empty line are none.

@@ -4,17 +4,14 @@
 //! first record is no good: bits of the log are turned, or its bytes are cut off, or another record stands in
 //! its place. Each is read whole, 1 and 7 bytes at once, and in two pieces, cut at each place. The logs, in
 //! data/cases, are made from their notation in data/cases.note, and the file stdout was worked out by hand.
-#![tactic(auto)]
 
-use outside::{MemoryLog, SteadyLog};
-use pg_types::{Lsn, NoMemory};
-use std::alloc::{AllocError, Global};
-use std::{fs, io};
-use wal_reader::{EndWhy, Next, ReadFault, Reader};
+use crate::logs::{log_of, reader_at, why_text};
+use case_text::{ShowPosition, Wrong};
+use pg_types::Lsn;
+use std::alloc::Global;
+use std::fs;
+use wal_reader::{EndWhy, Next, ReadFault};
 use wal_record::PrevRule;
-
-/// The bytes of a segment.
-const SEGMENT: u32 = 0x100_0000;
 
 /// Where the first record begins, and the one before it, which is not there.
 #[derive(Clone, Copy)]
@@ -93,39 +90,40 @@ const CHANGES: [(&str, Change); 8] = [
     ("other CRC", Change::Turn { place: 20, bits: 1 }),
 ];
 
-fn main(rt: HostRuntime) -> io::Result<()> {
+/// Reads them all.
+pub fn answer_all(rt: &HostRuntime) -> Result<(), Wrong> {
     for (name, from) in [("page", 0x200_1FE8), ("segment", 0x2FF_FFE8)] {
         let place = Place {
             from,
             before: from - 0x40,
         };
-        let bytes = file(&rt, name, "")?;
+        let bytes = file(rt, name, "")?;
         for most in [8192usize, 7, 1] {
-            println!(&rt; "{name}, at most {most} bytes at once")?;
-            lengths(&rt, place, bytes.as_slice(), most)?;
+            println!(rt; "{name}, at most {most} bytes at once")?;
+            lengths(rt, place, bytes.as_slice(), most)?;
         }
-        pieces(&rt, place, bytes.as_slice())?;
-        changes(&rt, place, name, bytes.as_slice())?;
+        pieces(rt, place, bytes.as_slice())?;
+        changes(rt, place, name, bytes.as_slice())?;
         for kind in ["_layout", "_compressed"] {
-            let bytes = file(&rt, name, kind)?;
-            print!(&rt; "{name}{kind}")?;
-            ways(&rt, place, bytes.as_slice())?;
+            let bytes = file(rt, name, kind)?;
+            print!(rt; "{name}{kind}")?;
+            ways(rt, place, bytes.as_slice())?;
         }
     }
     Ok(())
 }
 
-fn file(rt: &HostRuntime, name: &str, kind: &str) -> io::Result<Vec<u8>> {
+fn file(rt: &HostRuntime, name: &str, kind: &str) -> Result<Vec<u8>, Wrong> {
     let path = format!(in rt.alloc(); "cases/{name}{kind}")?;
-    fs::read(rt, path.as_str())
+    Ok(fs::read(rt, path.as_str())?)
 }
 
 /// Reads the log's first bytes, from none to all.
-fn lengths(rt: &HostRuntime, place: Place, bytes: &[u8], most: usize) -> io::Result<()> {
+fn lengths(rt: &HostRuntime, place: Place, bytes: &[u8], most: usize) -> Result<(), Wrong> {
     let mut last = None;
     for len in 0..bytes.len().saturating_add(1) {
         let (text, _) = bytes.split_at(len.min(bytes.len()));
-        let outcome = read(rt.alloc(), place, text, most, &[]).map_err(|_| AllocError)?;
+        let outcome = read(rt.alloc(), place, text, most, &[])?;
         if last != Some(outcome) {
             print!(rt; "  from {len} bytes: ")?;
             show(rt, outcome)?;
@@ -136,12 +134,12 @@ fn lengths(rt: &HostRuntime, place: Place, bytes: &[u8], most: usize) -> io::Res
 }
 
 /// Reads the whole log in two pieces, cut at each place.
-fn pieces(rt: &HostRuntime, place: Place, bytes: &[u8]) -> io::Result<()> {
-    let whole = read(rt.alloc(), place, bytes, 8192, &[]).map_err(|_| AllocError)?;
+fn pieces(rt: &HostRuntime, place: Place, bytes: &[u8]) -> Result<(), Wrong> {
+    let whole = read(rt.alloc(), place, bytes, 8192, &[])?;
     let mut same = 0u32;
     for offset in 0..bytes.len() as u64 {
         let cut = place.from.saturating_add(offset);
-        let outcome = read(rt.alloc(), place, bytes, 8192, &[cut]).map_err(|_| AllocError)?;
+        let outcome = read(rt.alloc(), place, bytes, 8192, &[cut])?;
         if outcome == whole {
             same = same.saturating_add(1);
         }
@@ -151,7 +149,7 @@ fn pieces(rt: &HostRuntime, place: Place, bytes: &[u8]) -> io::Result<()> {
 }
 
 /// Reads the log with each of the changes.
-fn changes(rt: &HostRuntime, place: Place, name: &str, bytes: &[u8]) -> io::Result<()> {
+fn changes(rt: &HostRuntime, place: Place, name: &str, bytes: &[u8]) -> Result<(), Wrong> {
     for (what, change) in CHANGES {
         let mut text = Vec::from_slice(rt.alloc(), bytes)?;
         make(change, &mut text);
@@ -173,18 +171,18 @@ fn make(change: Change, text: &mut Vec<u8>) {
 }
 
 /// Reads a log whole, 1 and 7 bytes at once, and in two pieces, cut at each place.
-fn ways(rt: &HostRuntime, place: Place, bytes: &[u8]) -> io::Result<()> {
-    let whole = read(rt.alloc(), place, bytes, 8192, &[]).map_err(|_| AllocError)?;
+fn ways(rt: &HostRuntime, place: Place, bytes: &[u8]) -> Result<(), Wrong> {
+    let whole = read(rt.alloc(), place, bytes, 8192, &[])?;
     let mut same = 1u32;
     for most in [1usize, 7] {
-        let outcome = read(rt.alloc(), place, bytes, most, &[]).map_err(|_| AllocError)?;
+        let outcome = read(rt.alloc(), place, bytes, most, &[])?;
         if outcome == whole {
             same = same.saturating_add(1);
         }
     }
     for offset in 0..bytes.len() as u64 {
         let cut = place.from.saturating_add(offset);
-        let outcome = read(rt.alloc(), place, bytes, 8192, &[cut]).map_err(|_| AllocError)?;
+        let outcome = read(rt.alloc(), place, bytes, 8192, &[cut])?;
         if outcome == whole {
             same = same.saturating_add(1);
         }
@@ -193,30 +191,17 @@ fn ways(rt: &HostRuntime, place: Place, bytes: &[u8]) -> io::Result<()> {
     show(rt, whole)
 }
 
-fn show(rt: &HostRuntime, outcome: Outcome) -> io::Result<()> {
-    let high = outcome.stop.at >> 32;
-    let low = outcome.stop.at & 0xFFFF_FFFF;
-    print!(rt; "{} records, {high:X}/{low:X} ", outcome.records)?;
-    match outcome.stop.why {
-        Why::End(why) => println!(rt; "{}", why_text(why)),
-        Why::Compressed => println!(rt; "refused, compressed"),
-        Why::TooLong => println!(rt; "refused, too long"),
-        Why::Fault => println!(rt; "fault"),
-        Why::Other => println!(rt; "another answer when asked again"),
-    }
-}
-
-fn why_text(why: EndWhy) -> &'static str {
-    match why {
-        EndWhy::Missing => "missing",
-        EndWhy::Page => "page",
-        EndWhy::Zero => "length 0",
-        EndWhy::Short => "length below a header's",
-        EndWhy::Manager => "manager",
-        EndWhy::Prev => "link",
-        EndWhy::Crc => "CRC",
-        EndWhy::Layout => "layout",
-    }
+fn show(rt: &HostRuntime, outcome: Outcome) -> Result<(), Wrong> {
+    let why = match outcome.stop.why {
+        Why::End(why) => why_text(why),
+        Why::Compressed => "refused, compressed",
+        Why::TooLong => "refused, too long",
+        Why::Fault => "fault",
+        Why::Other => "another answer when asked again",
+    };
+    let at = ShowPosition(Lsn(outcome.stop.at));
+    println!(rt; "{} records, {at} {why}", outcome.records)?;
+    Ok(())
 }
 
 /// Reads record after record up to the log's end or a refusal, and asks once more there.
@@ -226,16 +211,10 @@ fn read(
     text: &[u8],
     most: usize,
     cuts: &[u64],
-) -> Result<Outcome, NoMemory> {
-    let log = SteadyLog::new(alloc, Lsn(place.from), text)?;
-    let mut log = MemoryLog::new(alloc, log, most, cuts, &[])?;
-    let mut reader = Reader::start(
-        alloc,
-        7,
-        SEGMENT,
-        Lsn(place.from),
-        PrevRule::Is(Lsn(place.before)),
-    )?;
+) -> Result<Outcome, Wrong> {
+    let from = Lsn(place.from);
+    let mut log = log_of(alloc, from, text, most, cuts, &[])?;
+    let mut reader = reader_at(alloc, from, PrevRule::Is(Lsn(place.before)))?;
     for records in 0..9u32 {
         let Some(stop) = stop_of(reader.next(&mut log)) else {
             reader.accept();
