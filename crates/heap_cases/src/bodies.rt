@@ -57,24 +57,43 @@ fn typed(
             "redo" => redone(alloc, pool, &with(rec, asked.1)?, &tables),
             _ => Err(Wrong::Line),
         },
-        Err(fault) => refused(alloc, at, fault_text(fault)),
+        Err(fault) => told(alloc, at, fault_text(fault), None),
     }
 }
 
 /// The record with what no bytes that are read so can say: an id past 32 bits (`xid N`), or a delete by a
 /// multixact (`bits N`).
 fn with<'a>(rec: Rec<'a>, changes: &[&str]) -> Result<Rec<'a>, Wrong> {
-    let mut rec = rec;
-    match *changes {
-        [] => {}
-        ["xid", xid] => rec.head.xid = Xid(number_u64(xid)?),
-        ["bits", number] => match &mut rec.kind {
-            RecKind::Delete { bits, .. } => *bits = number_u8(number)?,
-            _ => return Err(Wrong::Line),
+    let mut head = rec.head;
+    let kind = match (rec.kind, changes) {
+        (kind, []) => kind,
+        (kind, ["xid", xid]) => {
+            head.xid = Xid(number_u64(*xid)?);
+            kind
+        }
+        (
+            RecKind::Delete {
+                xmax,
+                line,
+                flags,
+                ..
+            },
+            ["bits", bits],
+        ) => RecKind::Delete {
+            xmax,
+            line,
+            bits: number_u8(*bits)?,
+            flags,
         },
         _ => return Err(Wrong::Line),
-    }
-    Ok(rec)
+    };
+    Ok(Rec {
+        head,
+        start: rec.start,
+        end: rec.end,
+        kind,
+        blocks: rec.blocks,
+    })
 }
 
 /// Applies the record, and tells why not.
@@ -87,28 +106,23 @@ fn redone(alloc: Global, pool: &mut Pool, rec: &Rec<'_>, tables: &Tables) -> Res
     }
     match redo(rec, tables, pool) {
         Ok(()) => Ok(String::from_str(alloc, "applied")?),
-        Err(RedoFault::PageMissing { lsn, place }) => placed(alloc, "no page", lsn, place),
-        Err(RedoFault::NoTuple { lsn, place }) => placed(alloc, "no tuple", lsn, place),
-        Err(RedoFault::PageFull { lsn, place }) => placed(alloc, "page full", lsn, place),
-        Err(RedoFault::BadPage { lsn, place }) => placed(alloc, "bad page", lsn, place),
+        Err(RedoFault::PageMissing { lsn, place }) => told(alloc, lsn, "no page", Some(place)),
+        Err(RedoFault::NoTuple { lsn, place }) => told(alloc, lsn, "no tuple", Some(place)),
+        Err(RedoFault::PageFull { lsn, place }) => told(alloc, lsn, "page full", Some(place)),
+        Err(RedoFault::BadPage { lsn, place }) => told(alloc, lsn, "bad page", Some(place)),
         Err(RedoFault::Memory) => Err(Wrong::Memory),
     }
 }
 
-fn placed(alloc: Global, what: &str, lsn: Lsn, place: Place) -> Result<String, Wrong> {
+/// What became of a record, and where.
+fn told(alloc: Global, lsn: Lsn, what: &str, place: Option<Place>) -> Result<String, Wrong> {
     let mut answer = Answer::new(alloc);
     answer.position("", lsn);
     answer.say(": ");
     answer.say(what);
-    answer.place(" ", place);
-    answer.finish()
-}
-
-fn refused(alloc: Global, lsn: Lsn, what: &str) -> Result<String, Wrong> {
-    let mut answer = Answer::new(alloc);
-    answer.position("", lsn);
-    answer.say(": ");
-    answer.say(what);
+    if let Some(place) = place {
+        answer.place(" ", place);
+    }
     answer.finish()
 }
 

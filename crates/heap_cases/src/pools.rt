@@ -15,22 +15,12 @@ pub fn answer(alloc: Global, pool: &mut Pool, words: &[&str]) -> Result<String, 
     ensures { table_count pool.new ≡ 2 }
 {
     match *words {
-        ["blocks", table] => blocks(alloc, pool, number_u16(table)?),
-        ["look", table, block] => {
-            let tag = tag(table, block)?;
-            look(alloc, pool, tag)
+        ["blocks", table] => {
+            let count = pool.blocks(tag(table, "0")?.table);
+            Ok(format!(in alloc; "{count}")?)
         }
-        ["fresh", table, block] => {
-            let tag = tag(table, block)?;
-            let text = fresh(pool, tag)?;
-            Ok(String::from_str(alloc, text)?)
-        }
-        ["byte", table, block, at, value] => {
-            let tag = tag(table, block)?;
-            let text = spoil(pool, tag, at, value)?;
-            Ok(String::from_str(alloc, text)?)
-        }
-        _ => changed(alloc, pool, words),
+        ["look", table, block] => look(alloc, pool, tag(table, block)?),
+        _ => Ok(String::from_str(alloc, changed(alloc, pool, words)?)?),
     }
 }
 
@@ -44,16 +34,6 @@ fn tag(table: &str, block: &str) -> Result<Tag, Wrong>
         return Err(Wrong::Number);
     }
     Ok(Tag { table, block })
-}
-
-fn blocks(alloc: Global, pool: &Pool, table: u16) -> Result<String, Wrong>
-    requires { table_count pool.now ≡ 2 }
-{
-    if table >= 2 {
-        return Err(Wrong::Number);
-    }
-    let count = pool.blocks(table);
-    Ok(format!(in alloc; "{count}")?)
 }
 
 /// The page of a block, or why it is not lent.
@@ -99,17 +79,15 @@ fn spoil(pool: &mut Pool, tag: Tag, at: &str, value: &str) -> Result<&'static st
     }
 }
 
-/// Changes the page of a block.
-fn changed(alloc: Global, pool: &mut Pool, words: &[&str]) -> Result<String, Wrong>
+/// Changes a table, or the page of a block.
+fn changed(alloc: Global, pool: &mut Pool, words: &[&str]) -> Result<&'static str, Wrong>
     requires { table_count pool.old ≡ 2 }
     ensures { table_count pool.new ≡ 2 }
 {
     match *words {
-        [table, block, ref rest @ ..] => {
-            let tag = tag(table, block)?;
-            let text = change(alloc, pool, tag, rest)?;
-            Ok(String::from_str(alloc, text)?)
-        }
+        ["fresh", table, block] => fresh(pool, tag(table, block)?),
+        ["byte", table, block, at, value] => spoil(pool, tag(table, block)?, at, value),
+        [table, block, ref rest @ ..] => change(alloc, pool, tag(table, block)?, rest),
         _ => Err(Wrong::Line),
     }
 }
