@@ -1,13 +1,14 @@
-ghost use Rattle.std.specs.Prelude.{◌≡◌};
+ghost use Rattle.std.specs.Prelude.{◌≡◌, ◌≤◌, length};
 ghost use Rattle.page_store.specs.Content.{table_count};
 
 use anyhow::Result;
 use heap_redo::redo;
 use outside::{Folder, LogBytes};
 use page_store::Pool;
-use pg_types::{Locator, Lsn};
-use std::alloc::Global;
+use pg_types::Lsn;
+use schema_file::{SchemaFile, read_tables};
 use std::time::{Duration, Instant};
+use table_schema::{SchemaFault, Tables};
 use wal_archive::ArchiveLog;
 use wal_bodies::body;
 use wal_reader::{Next, Reader};
@@ -22,13 +23,6 @@ const SYSTEM: u64 = 7;
 /// Where the log begins: behind the header of the first page of segment 2.
 const START: u64 = 0x200_0028;
 
-/// The file of the only table.
-const TABLE: Locator = Locator {
-    space: 1663,
-    db: 16384,
-    rel: 16385,
-};
-
 /// What was replayed: how many records, and where the last one ends.
 #[derive(Drop)]
 struct Tally {
@@ -38,31 +32,42 @@ struct Tally {
 
 /// Replays the whole log, and prints how long that took.
 pub fn replay(rt: &HostRuntime) -> Result<()> {
+    let tables = described(rt)?;
     let mut archive = Folder::archive(rt.alloc(), rt);
     let mut log = ArchiveLog::plain(&mut archive, SEGMENT);
     let mut reader = Reader::start(rt.alloc(), SYSTEM, SEGMENT, Lsn(START), PrevRule::Below)?;
-    let mut pool = Pool::plain(rt.alloc(), 1)?;
+    let mut pool = Pool::plain(rt.alloc(), tables.locators().len().max(1) as u16)?;
     let begun = Instant::now(rt)?;
-    let tally = replay_all(rt.alloc(), &mut reader, &mut log, &mut pool)?;
+    let tally = replay_all(&tables, &mut reader, &mut log, &mut pool)?;
     told(rt, &tally, pool.blocks(0), begun.elapsed(rt)?)
+}
+
+/// The tables that the file `schema.toml` of the folder `base` describes.
+fn described(rt: &HostRuntime) -> Result<Tables> {
+    let mut base = Folder::base(rt.alloc(), rt);
+    match read_tables(rt.alloc(), &mut base, "schema.toml")? {
+        SchemaFile::Described(tables) => Ok(tables),
+        SchemaFile::Absent => Err(SchemaFault::Toml.into()),
+        SchemaFile::Refused(fault) => Err(fault.into()),
+    }
 }
 
 /// Replays record after record up to the log's end.
 fn replay_all<L: LogBytes>(
-    alloc: Global,
+    tables: &Tables,
     reader: &mut Reader,
     log: &mut L,
     pool: &mut Pool,
 ) -> Result<Tally>
-    requires { table_count pool.old ≡ 1 }
-    ensures { table_count pool.new ≡ 1 }
+    requires { length tables.now.tables ≤ table_count pool.old }
+    ensures { table_count pool.new ≡ table_count pool.old }
 {
     let mut tally = Tally {
         records: 0,
         end: START,
     };
     for _ in 0..u64::MAX {
-        let Some(end) = replay_one(alloc, reader, log, pool)? else {
+        let Some(end) = replay_one(tables, reader, log, pool)? else {
             break;
         };
         tally.records = tally.records.wrapping_add(1);
@@ -73,19 +78,20 @@ fn replay_all<L: LogBytes>(
 
 /// Replays the next record, and answers where it ends, or that none is there.
 fn replay_one<L: LogBytes>(
-    alloc: Global,
+    tables: &Tables,
     reader: &mut Reader,
     log: &mut L,
     pool: &mut Pool,
 ) -> Result<Option<Lsn>>
-    requires { table_count pool.old ≡ 1 }
-    ensures { table_count pool.new ≡ 1 }
+    requires { length tables.now.tables ≤ table_count pool.old }
+    ensures { table_count pool.new ≡ table_count pool.old }
 {
     let Next::Record { start, end } = reader.next(log)? else {
         return Ok(None);
     };
-    let rec = body(alloc, &reader.record(), start, end, TABLE.db, &[TABLE])?;
-    redo(&rec, &[TABLE], pool)?;
+    let view = reader.record();
+    let rec = body(&view, start, end, tables.database(), tables.locators())?;
+    redo(&rec, tables, pool)?;
     reader.accept();
     Ok(Some(end))
 }

@@ -1,9 +1,8 @@
 ghost use Rattle.std.specs.Prelude.{◌≡◌, ◌+◌};
 ghost use Rattle.xact_redo.specs.State.{AreIdsInRange};
 
-use pg_types::{Lsn, Xid, XidList};
-use std::alloc::Global;
-use wal_bodies::{Rec, RecBlocks, RecKind};
+use pg_types::{Lsn, Xid};
+use wal_bodies::{Rec, RecBlocks, RecKind, Xids};
 use wal_record::RecordHead;
 
 /// The id of the first transaction.
@@ -22,21 +21,21 @@ fn position_of(number: u32) -> Lsn {
 }
 
 /// A record of this transaction and kind, of 0x30 bytes.
-fn record(alloc: Global, head: RecordHead, start: Lsn, kind: RecKind) -> Rec
+fn record<'a>(head: RecordHead, start: Lsn, kind: RecKind<'a>) -> Rec<'a>
     ensures head { result.head ≡ head }
-    ensures kind { result.kind ≡ kind }
+    ensures kind { result.kind ≡ kind.entry }
 {
     Rec {
         head,
         start,
         end: Lsn(start.0.wrapping_add(0x30)),
         kind,
-        blocks: RecBlocks::new(alloc),
+        blocks: RecBlocks::none(),
     }
 }
 
 /// No transaction runs, and the next one is the first: after this record snapshots can be taken.
-pub fn running(alloc: Global) -> Rec
+pub fn running<'a>() -> Rec<'a>
     ensures { AreIdsInRange result }
 {
     let head = RecordHead {
@@ -53,13 +52,13 @@ pub fn running(alloc: Global) -> Rec
         next: Xid(FIRST),
         oldest: Xid(FIRST),
         latest: Xid(FIRST - 1),
-        xids: XidList::new(alloc),
+        xids: Xids::none(),
     };
-    record(alloc, head, Lsn(0x200_0000), kind)
+    record(head, Lsn(0x200_0000), kind)
 }
 
 /// The transaction with this number inserts a row, and so is seen for the first time.
-pub fn insert(alloc: Global, number: u32) -> Rec
+pub fn insert<'a>(number: u32) -> Rec<'a>
     ensures { AreIdsInRange result }
 {
     let head = RecordHead {
@@ -70,7 +69,7 @@ pub fn insert(alloc: Global, number: u32) -> Rec
         manager: 10,
     };
     let kind = RecKind::Insert { line: 1, flags: 0 };
-    record(alloc, head, position_of(number), kind)
+    record(head, position_of(number), kind)
 }
 
 /// Whether the transaction with this number aborts, as every tenth does.
@@ -79,7 +78,7 @@ pub fn does_abort(number: u32) -> bool {
 }
 
 /// The transaction with this number commits, or aborts.
-pub fn end(alloc: Global, number: u32) -> Rec
+pub fn end<'a>(number: u32) -> Rec<'a>
     ensures { AreIdsInRange result }
 {
     let head = RecordHead {
@@ -92,7 +91,7 @@ pub fn end(alloc: Global, number: u32) -> Rec
     let kind = RecKind::Ended {
         time: 0,
         xinfo: 0,
-        xids: XidList::new(alloc),
+        xids: Xids::none(),
     };
-    record(alloc, head, position_of(number), kind)
+    record(head, position_of(number), kind)
 }

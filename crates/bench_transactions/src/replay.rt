@@ -15,7 +15,7 @@ const BEHIND: u32 = 7;
 const BETWEEN_SNAPSHOTS: u32 = 1000;
 
 /// Makes room for a record, and applies it.
-fn apply(rec: &Rec, state: &mut XactState) -> Result<(), NoMemory>
+fn apply(rec: &Rec<'_>, state: &mut XactState) -> Result<(), NoMemory>
     requires { AreIdsInRange rec.now }
 {
     reserve(rec, state)?;
@@ -37,17 +37,17 @@ fn taken(alloc: Global, state: &XactState) -> Result<usize, NoMemory> {
 /// Replays so many transactions, of which eight run at a time, and takes snapshots in between. Answers
 /// how many running transactions the snapshots had.
 pub fn replay(alloc: Global, count: u32, state: &mut XactState) -> Result<u64, NoMemory> {
-    apply(&running(alloc), state)?;
+    apply(&running(), state)?;
     let mut seen = 0_u64;
     for number in 0..count.saturating_add(BEHIND) {
         if number < count {
-            apply(&insert(alloc, number), state)?;
+            apply(&insert(number), state)?;
         }
         if number % BETWEEN_SNAPSHOTS == 0 {
             seen = seen.wrapping_add(taken(alloc, state)? as u64);
         }
         if let Some(oldest) = number.checked_sub(BEHIND) {
-            apply(&end(alloc, oldest), state)?;
+            apply(&end(oldest), state)?;
         }
     }
     Ok(seen)

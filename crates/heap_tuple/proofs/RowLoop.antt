@@ -54,7 +54,7 @@ column_done tuple i at end columns column done more cell whole h e value before 
     ∙ before
 
 -- the fault of a row says what it is refused for
-refusal_says : (i : ℕ) (refusal : ValueRefusal) (whole : Result (List Cell) RowRefusal) → Err (refused_in i refusal) ≡ whole → SaysRow (Err (fault_in i refusal)) whole
+pub refusal_says : (i : ℕ) (refusal : ValueRefusal) (whole : Result (List Cell) RowRefusal) → Err (refused_in i refusal) ≡ whole → SaysRow (Err (fault_in i refusal)) whole
 refusal_says i IsToasted whole e = sym e
 refusal_says i IsBad whole e = sym e
 

@@ -4,13 +4,13 @@ use Rattle.std.proofs.lemmas.Bool.{eq-eqb, eqb-true, false_from_ne_true, false�
 use Rattle.known_assigned.specs.Ids.{is_among}
 use Rattle.transaction_model.specs.Transactions.{TransactionRecord, committed, ended, Live, seen}
 use Rattle.transaction_model.specs.LegalTransactions.{CommitRule, Legal, OnlineRule, OriginRule, RunningRule, before, greatest_next, last_redo, starts_at}
-use Rattle.transaction_model.proofs.NoIds.{among_one, none_at, nothing_head, nothing_rule, one_among}
+use Rattle.transaction_model.proofs.NoIds.{among_one, none_ended_at, nothing_head, nothing_rule, one_among}
 use Rattle.xact_redo.specs.TransactionsOf.{transaction_of, transactions_of}
 use Rattle.row_model.specs.WorkedRows.{insert_by_700, nothing_runs, online_checkpoint, update_by_701, worked_first, worked_log, worked_ids, worked_start}
 
 none_ended : (x : ℕ) → 3 ≤ x → ended worked_ids.at x [] ≡ false
 unfolding ended
-none_ended x normal = none_at x normal
+none_ended x normal = none_ended_at x normal
 
 worked_rule : OriginRule worked_ids
 unfolding committed

@@ -1,7 +1,7 @@
 -- A standby that replays records one after the other: the blocks of the described tables as each record leaves them,
 -- what is known of transactions, and the fault of the first record that is refused at a block.
 -- Sources: xlogrecovery.c (PerformWalRecovery, ApplyWalRecord).
-use Rattle.std.specs.Prelude.{ℕ, List, [], ◌∷◌, Result, Ok, Err}
+use Rattle.std.specs.Prelude.{List, [], ◌∷◌, Result, Ok, Err}
 use Rattle.wal_record.specs.declared.types.PrevRule.TheVariants.{Is}
 use Rattle.wal_bodies.specs.declared.types.Rec.{Rec}
 use Rattle.heap_redo.specs.declared.fault.RedoFault.{RedoFault}

@@ -1,6 +1,6 @@
 -- The steps of a replay put together.
 use Rattle.std.proofs.Common.{◌≡◌, ◌⊎◌, inl, inr, ℕ, zero, suc, ◌+◌, ◌-◌, ◌≤◌, ◌^◌, List, Option, Some, None, Result, Ok, Err, refl, sym, ◌∙◌, ap, subst, arith, true}
-use Rattle.std.specs.Prelude.{IsTrue}
+use Rattle.std.specs.Prelude.{IfSome, IsTrue}
 use Rattle.pg_types.specs.declared.names.Locator.{Locator}
 use Rattle.pg_types.specs.declared.names.Lsn.{Lsn}
 use Rattle.wal_record.specs.declared.types.PrevRule.TheVariants.{Is}
@@ -15,7 +15,7 @@ use Rattle.wal_reader.specs.declared.types.NoRecord.{NoRecord}
 use Rattle.wal_reader.specs.declared.types.NoRecord.TheVariants as stop
 use Rattle.wal_reader.specs.Calls.{WhereTold}
 use Rattle.wal_reader.specs.Kept.{AreTold, Kept}
-use Rattle.wal_reader.specs.Standing.{Answers, BearsPosition, Standing}
+use Rattle.wal_reader.specs.Standing.{Answers, BearsPosition, Standing, record_given}
 use Rattle.wal_reader.specs.Step.{Entry, step}
 use Rattle.wal_reader.specs.Told.{Told}
 use Rattle.wal_bodies.specs.declared.types.BodyFault.{BodyFault}
@@ -25,6 +25,7 @@ use Rattle.wal_bodies.specs.Typed.{typed}
 use Rattle.heap_redo.specs.declared.fault.RedoFault.{RedoFault}
 use Rattle.heap_redo.specs.declared.fault.RedoFault.TheVariants as redo
 use Rattle.heap_redo.specs.Redone.{Outcome, Stands, View}
+use Rattle.xact_redo.specs.State.{state_after}
 use Rattle.table_schema.specs.Description.{locators}
 use Rattle.standby_core.specs.declared.node.Node.{Node}
 use Rattle.standby_core.specs.declared.types.NodeFault.{NodeFault}
@@ -37,14 +38,19 @@ use Rattle.standby_model.specs.Log.{Stop as LogStop, record_at, stop_by, typed_o
 use Rattle.standby_core.specs.Standby.{Standby, described_to, told_to}
 use Rattle.standby_core.specs.declared.types.Stopped.{Stopped}
 use Rattle.standby_core.specs.declared.types.Stopped.TheVariants as stopped
-use Rattle.standby_core.specs.Replay.{IsApplied, IsRefusedAs, by_blocks, by_record, Replays, ReplaysSome, redo_refusal}
-use Rattle.standby_core.specs.Steps.{GivenRedone, GivenReplays, Gives, IsRedone, Redone, TypedRedone, body_refusal, stopped_by, unread}
+use Rattle.standby_core.specs.Replay.{IsApplied, IsRefusedAs, by_blocks, by_record, Replays, ReplaysSome, awaited_after, redo_refusal}
+use Rattle.standby_core.specs.Steps.{GivenRedone, GivenReplays, Gives, IsGiven, IsRedone, Redone, TypedRedone, body_refusal, stopped_by, unread}
 use Rattle.standby_core.specs.View.{ReplaysTold, standby}
 use Rattle.standby_core.proofs.Refusing.{redone_not_memory}
 
 -- one position
 pub same_lsn : (a b : Lsn) → a.0 ≡ b.0 → a ≡ b
 same_lsn a b e = let made : ℕ → Lsn = λ n. record { 0 = n } in ap made e
+
+-- the record that was given
+pub given_is : (reader : Standing) (start end : Lsn) (found : Record) → Gives reader start end
+    → IfSome reader.given (λ given. record_given reader given ≡ Ok found) → IsGiven reader start found
+given_is reader start end found gives is = subst (λ given. IfSome given (λ at. record_given reader at ≡ Ok found)) gives is
 
 -- the position, its record, and what is due there
 abbrev pub due_at : Standby → Lsn → Lsn → Record → Result Rec LogStop
@@ -96,10 +102,18 @@ given_passed reader start end awaited old mid new h moved =
     applied : (rec : Rec) → IsRedone rec awaited old mid → rec.start ≡ start → rec.end ≡ end → IsApplied rec old new
     applied rec is a b =
         let e = is.others in
-        let w = is.awaited_is in
+        let blocks_same : new.blocks ≡ mid.blocks = ap (λ (node : Standby). node.blocks) moved in
+        let kept_same : new.kept ≡ old.kept = ap (λ (node : Standby). node.kept) moved ∙ ap (λ (node : Standby). node.kept) e in
+        let made : Lsn → Lsn → Option Lsn → View → Kept → Standby = λ s t w b k.
+        record old { at = t; prev = Is s; awaited = w; blocks = b; transactions = state_after rec old.transactions; kept = k } in
+        let same = ap (λ s. made s end awaited mid.blocks old.kept) (sym a)
+        ∙ ap (λ t. made rec.start t awaited mid.blocks old.kept) (sym b)
+        ∙ ap (λ w. made rec.start rec.end w mid.blocks old.kept) is.awaited_is
+        ∙ ap (λ b. made rec.start rec.end (awaited_after rec.kind old.awaited) b old.kept) (sym blocks_same)
+        ∙ ap (λ k. made rec.start rec.end (awaited_after rec.kind old.awaited) new.blocks k) (sym kept_same) in
         record {
           blocks = is.blocks ∙ ap (λ (view : View). let o : Outcome = (view, Ok tt) in o) (sym (ap (λ (node : Standby). node.blocks) moved));
-          others = moved ∙ search (e, w, a, b);
+          others = moved ∙ ap (λ (node : Standby). let n : Standby = record node { at = end; prev = Is start; awaited = awaited } in n) e ∙ same;
         }
 
 pub given_stopped : (reader : Standing) (start end : Lsn) (what : What) (old new : Standby)

@@ -1,8 +1,9 @@
 -- How a row is printed: as COPY .. TO STDOUT prints it in its text format (copyto.c), but that of the control
 -- characters only tab, newline and return are escaped.
-use Rattle.std.specs.Prelude.{ℕ, ◌+◌, ◌/◌, ◌%◌, false, ◌||◌, ◌==◌, List, [], ◌∷◌, ◌++◌, codes, if◌then◌else◌}
+use Rattle.std.specs.Prelude.{ℕ, ◌+◌, ◌/◌, ◌%◌, false, ◌||◌, ◌==◌, List, [], ◌∷◌, ◌++◌, codes, Result, Ok, Err, if◌then◌else◌}
 use Rattle.std.specs.List.{flat_map}
 use Rattle.std.specs.Fmt.{signed_decimal, digit_glyph}
+use Rattle.heap_tuple.specs.Values.{RowRefusal}
 use Rattle.heap_tuple.specs.declared.cell.Cell.{Cell}
 use Rattle.heap_tuple.specs.declared.cell.Cell.TheVariants.{Null, Bool as BoolCell, Int as IntCell, Bytes as BytesCell}
 use Rattle.heap_tuple.specs.declared.cell.Column.{Column}
@@ -62,3 +63,12 @@ abbrev pub row_text : List Column → List Cell → List ℕ
 row_text [] cells = []
 row_text (column ∷ columns) [] = []
 row_text (column ∷ columns) (cell ∷ cells) = cell_text column.kind cell ++ further_text columns cells
+
+-- what stands there once the row that a tuple stores was printed behind a text, unless the row is refused
+abbrev pub printed : List Column → List ℕ → Result (List Cell) RowRefusal → Result (List ℕ) RowRefusal
+printed columns text (Ok cells) = Ok (text ++ row_text columns cells)
+printed columns text (Err refusal) = Err refusal
+
+-- a tab before each column but the first
+abbrev pub tab_before : ℕ → List ℕ
+tab_before i = if i == 0 then [] else 9 ∷ []

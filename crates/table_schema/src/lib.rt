@@ -11,9 +11,11 @@ mod members;
 mod name;
 mod row_text;
 mod tables;
+mod tuple_text;
 
 pub use description::read_schema;
 pub use fault::{Key, SchemaFault};
 pub use laws::{one_description, refusals_are_named, tables_are_apart};
 pub use name::Name;
 pub use tables::Tables;
+pub use tuple_text::print_tuple;

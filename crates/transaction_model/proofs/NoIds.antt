@@ -21,6 +21,10 @@ none_at x normal =
     (false_from_ne_true (x == 2) (λ e. let f = eqb-true x 2 e in omega arith)))
     refl
 
+-- so it has not ended where no status is kept
+pub none_ended_at : (x : ℕ) → 3 ≤ x → (((x == 1 || x == 2) || false) || false) ≡ false
+none_ended_at x normal = or_from ((x == 1 || x == 2) || false) false (none_at x normal) refl
+
 -- nothing runs: n is the next id and the oldest one, and m the latest that completed
 abbrev pub nothing_head : ℕ → ℕ → RunningHead
 nothing_head n m =

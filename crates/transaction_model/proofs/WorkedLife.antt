@@ -10,7 +10,7 @@ use Rattle.transaction_model.specs.StandbyStates.{Leads, StandbyState, at_start,
 use Rattle.subtrans.specs.Parents.{topmost_of}
 use Rattle.transaction_model.specs.WorkedLife.{worked_origin, worked_head, at_place, while_pending, at_opening, afterwards, worked_first, IsWorkedLife}
 use Rattle.transaction_model.proofs.IdSets.{among_cases, among_first, among_later}
-use Rattle.transaction_model.proofs.NoIds.{none_at}
+use Rattle.transaction_model.proofs.NoIds.{none_ended_at}
 
 -- the top transaction of an id
 tops_are :
@@ -40,7 +40,7 @@ none_committed x normal h =
 
 none_ended : (x : ℕ) → 3 ≤ x → ended worked_origin.at x [] ≡ false
 unfolding ended
-none_ended x normal = none_at x normal
+none_ended x normal = none_ended_at x normal
 
 worked_rule : OriginRule worked_origin
 unfolding committed

@@ -2,7 +2,7 @@
 use case_text::{ShowHex, ShowPosition, Wrong, position};
 use pg_types::Lsn;
 use wal_record::{
-    BlockView, PrevRule, RecordFault, RecordHead, RecordView, decode, decode_head, lend,
+    BlockView, PrevRule, RecordFault, RecordHead, RecordView, decode_head, lend, shape_of,
 };
 
 pub fn answer(rt: &HostRuntime, question: &[&str], text: &[u8]) -> Result<(), Wrong> {
@@ -33,14 +33,8 @@ fn head(rt: &HostRuntime, text: &[u8], at: Lsn, prev: PrevRule) -> Result<(), Wr
 }
 
 fn whole(rt: &HostRuntime, text: &[u8], at: Lsn, prev: PrevRule) -> Result<(), Wrong> {
-    match decode(text, at, prev) {
-        Ok(view) => {
-            show(rt, &view)?;
-            let again = lend(text, at, prev);
-            if again.head() != view.head() || again.main() != view.main() {
-                print!(rt; ", lent otherwise")?;
-            }
-        }
+    match shape_of(text, at, prev) {
+        Ok(shape) => show(rt, &lend(text, shape))?,
         Err(fault) => print!(rt; "refused: {}", fault_text(fault))?,
     }
     println!(rt; "")?;

@@ -26,7 +26,7 @@ little_same i (suc n) xs ys same =
     let later = little_same (suc i) n xs ys (λ j h. same j (omega arith)) in
     rw (first, later) refl
 
-number_front : (n k m : ℕ) (text : List ℕ) → k + n ≤ m → number_at n (take m text) k ≡ number_at n text k
+pub number_front : (n k m : ℕ) (text : List ℕ) → k + n ≤ m → number_at n (take m text) k ≡ number_at n text k
 unfolding number_at
 number_front n k m text h =
     little_same 0 n (drop k (take m text)) (drop k text)

@@ -1,15 +1,16 @@
 -- A record read in steps.
-use Rattle.std.proofs.Common.{◌≡◌, ℕ, ◌-◌, Option, Some, None, Result, Ok, Err, List, [], ◌++◌, refl, subst, ◌∙◌}
+use Rattle.std.proofs.Common.{◌≡◌, ℕ, ◌-◌, Option, Some, None, Result, Ok, Err, List, [], ◌++◌, refl, sym, subst, ◌∙◌}
 use Rattle.wal_record.specs.declared.types.PrevRule.{PrevRule}
 use Rattle.wal_record.specs.Decoded.{head_of, decoded}
 use Rattle.wal_reader.specs.declared.types.Halt.{Halt}
+use Rattle.wal_reader.specs.declared.types.Taken.{Taken}
 use Rattle.wal_reader.specs.declared.types.Trouble.{Trouble}
 use Rattle.wal_reader.specs.declared.types.Trouble.TheVariants.{Halts, Log, Memory}
 use Rattle.wal_reader.specs.Told.{Told}
 use Rattle.wal_reader.specs.Gathered.{◌>>=◌, gathered}
 use Rattle.wal_reader.specs.Step.{Entry, length_in, unless_faulty, begun, headed, attempt, end_after}
-use Rattle.wal_reader.specs.Calls.{Gathering, WhereTold, Says, SaysText, SaysHead, SaysSome}
-use Rattle.wal_reader.specs.Records.{SaysGathered, SaysEnd}
+use Rattle.wal_reader.specs.Calls.{Gathering, WhereTold, Says, SaysText, SaysHead, SaysSome, text_at}
+use Rattle.wal_reader.specs.Records.{IsEntry, SaysAttempt, SaysEnd}
 
 -- the text so far does not matter to what is told
 pub where_from : (told : Option (ℕ → Option ℕ)) (owner : ℕ → ℕ) (old other new : Gathering) (P : Told → Type 0)
@@ -91,11 +92,12 @@ module _ (told : Told) (start : ℕ) where
         let s = rw t at says in
         rw t (begun_head total at text first ∙ rw read (rw s refl))
 
-    pub record_headless : (e : Trouble) (old new : List ℕ) → SaysHead (Err e) old (headed told start prev) → SaysGathered (Err e) new start prev (attempt told start prev)
+    pub record_headless : (e : Trouble) (old : List ℕ) (source : Gathering) → SaysHead (Err e) old (headed told start prev)
+        → SaysAttempt (Err e) source prev (attempt told start prev)
     unfolding attempt
-    record_headless (Halts halt) old new says = rw says refl
-    record_headless Log old new says = tt
-    record_headless Memory old new says = tt
+    record_headless (Halts halt) old source says = rw says refl
+    record_headless Log old source says = tt
+    record_headless Memory old source says = tt
 
     -- what is left of a record's reading, once its header is read
     rest_of_record : ℕ → List ℕ → ℕ → Result Entry Halt
@@ -108,23 +110,27 @@ module _ (told : Told) (start : ℕ) where
     unfolding attempt rest_of_record
     headed_record total at text first = rw first refl
 
-    pub record_unread : (e : Trouble) (total at : ℕ) (text new : List ℕ) → headed told start prev ≡ Ok (total, (text, at))
-        → SaysText (Err e) text new (gathered told (Some (total - 24)) (total - 24) at) → SaysGathered (Err e) new start prev (attempt told start prev)
+    pub record_unread : (e : Trouble) (total at : ℕ) (text new : List ℕ) (source : Gathering) → headed told start prev ≡ Ok (total, (text, at))
+        → SaysText (Err e) text new (gathered told (Some (total - 24)) (total - 24) at) → SaysAttempt (Err e) source prev (attempt told start prev)
     unfolding rest_of_record
-    record_unread (Halts halt) total at text new first says = headed_record total at text first ∙ rw says refl
-    record_unread Log total at text new first says = tt
-    record_unread Memory total at text new first says = tt
+    record_unread (Halts halt) total at text new source first says = headed_record total at text first ∙ rw says refl
+    record_unread Log total at text new source first says = tt
+    record_unread Memory total at text new source first says = tt
 
-    pub record_read : (result : Result ℕ Trouble) (total at behind segsize : ℕ) (text new : List ℕ) → headed told start prev ≡ Ok (total, (text, at))
-        → SaysText (Ok behind) text new (gathered told (Some (total - 24)) (total - 24) at)
-        → segsize ≡ told.segsize → SaysEnd result new start prev segsize behind → SaysGathered result new start prev (attempt told start prev)
+    pub record_read : (result : Result Taken Trouble) (total at behind : ℕ) (text : List ℕ) (source : Gathering) → headed told start prev ≡ Ok (total, (text, at))
+        → SaysText (Ok behind) text source.text (gathered told (Some (total - 24)) (total - 24) at)
+        → source.segsize ≡ told.segsize → SaysEnd result source start None prev behind → SaysAttempt result source prev (attempt told start prev)
     unfolding rest_of_record
-    record_read (Ok end) total at behind segsize text new first (bytes, read, t) size (record_, whole, last) =
-        let w = rw t at whole in
-        let l = rw size at last in
-        (record_, whole, headed_record total at text first ∙ rw read (rw (w, l) refl))
-    record_read (Err (Halts halt)) total at behind segsize text new first (bytes, read, t) size says =
-        let s = rw t at says in
+    record_read (Ok taken) total at behind text source first (bytes, read, t) size (record_, whole, same) =
+        let there : decoded source.text start prev ≡ Ok record_ = whole in
+        let w = rw t at there in
+        let made : attempt told start prev ≡ Ok (record { start = start; end = end_after source.segsize record_.head behind; record_ = record_ }) =
+        headed_record total at text first ∙ rw read (rw (w, size) refl) in
+        let P : Taken → Type 0 = λ x. IsEntry (text_at source x.start x.lent) x.start x.end prev (attempt told start prev) in
+        subst P (sym same) (record_, there, made)
+    record_read (Err (Halts halt)) total at behind text source first (bytes, read, t) size says =
+        let there : unless_faulty (decoded source.text start prev) ≡ Err halt = says in
+        let s = rw t at there in
         headed_record total at text first ∙ rw read (rw s refl)
-    record_read (Err Log) total at behind segsize text new first read size says = tt
-    record_read (Err Memory) total at behind segsize text new first read size says = tt
+    record_read (Err Log) total at behind text source first read size says = tt
+    record_read (Err Memory) total at behind text source first read size says = tt

@@ -1,6 +1,13 @@
 -- A record and what may stand in its place.
-use Rattle.std.proofs.Common.{◌≡◌, ℕ, Some, None, Result, Ok, Err, refl, ◌∙◌}
+use Rattle.std.proofs.Common.{◌≡◌, ℕ, List, Option, Some, None, Result, Ok, Err, refl, ◌∙◌}
 use Rattle.wal_record.specs.declared.types.PrevRule.{PrevRule}
+use Rattle.std.specs.Prelude.{IsSome}
+use Rattle.pg_types.specs.declared.names.Lsn.{Lsn}
+use Rattle.wal_record.specs.declared.types.RecordFault.{RecordFault}
+use Rattle.wal_record.specs.declared.view.RecordShape.{RecordShape}
+use Rattle.wal_record.specs.Shapes.{HasShape}
+use Rattle.wal_reader.specs.Standing.{HasGiven}
+use Rattle.wal_record.specs.Record.{Record}
 use Rattle.wal_reader.specs.declared.types.Halt.{Halt}
 use Rattle.wal_reader.specs.declared.types.Halt.TheVariants.{Stops, GivesUp}
 use Rattle.wal_reader.specs.declared.types.Taken.{Taken}
@@ -11,6 +18,15 @@ use Rattle.wal_reader.specs.Gathered.{place_at}
 use Rattle.wal_reader.specs.Step.{Entry, attempt, in_place_of, unless_given_up, step}
 use Rattle.wal_reader.specs.Calls.{Gathering, Says}
 use Rattle.wal_reader.specs.Records.{SaysAttempt, SaysStep, given_up_at}
+
+-- bytes are one record
+pub one_record : (r : Result Record RecordFault) (x y : Record) → r ≡ Ok x → r ≡ Ok y → x ≡ y
+one_record r x y p q = cc
+
+-- the record that is given has its shape
+pub given_has : (given : Option (Lsn × Lsn)) (text : List ℕ) (prev : PrevRule) (shape : RecordShape) → IsSome given → HasGiven given text prev shape → HasShape text shape
+given_has None text prev shape some has = absurd (cc)
+given_has (Some given) text prev shape some has = let whole = has given refl in whole.has
 
 module _ (told : Told) (at : ℕ) (prev : PrevRule) where
   pub step_nowhere : (trouble : Trouble) (source : Gathering) → Says {A = ℕ} (Err trouble) (place_at told None at)

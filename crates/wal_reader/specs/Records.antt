@@ -1,8 +1,10 @@
 -- What the calls that read a whole record say.
-use Rattle.std.specs.Prelude.{ℕ, ◌≡◌, Option, Some, None, Result, Ok, Err, IsOk, List}
+use Rattle.std.specs.Prelude.{ℕ, ◌≡◌, Option, Some, None, Result, Ok, Err, List}
 use Rattle.wal_record.specs.declared.types.PrevRule.{PrevRule}
+use Rattle.wal_record.specs.declared.view.RecordShape.{RecordShape}
 use Rattle.wal_record.specs.Record.{Record}
 use Rattle.wal_record.specs.Decoded.{decoded}
+use Rattle.wal_record.specs.Shapes.{HasShape, shaped}
 use Rattle.wal_reader.specs.declared.types.EndWhy.TheVariants.{Layout}
 use Rattle.wal_reader.specs.declared.types.NoRecord.{NoRecord}
 use Rattle.wal_reader.specs.declared.types.NoRecord.TheVariants.{End, Compressed, TooLong}
@@ -19,12 +21,6 @@ abbrev pub IsEntry : {E : Type 0} → List ℕ → ℕ → ℕ → PrevRule → 
 IsEntry text start end prev expected =
     (record_ : Record) × (decoded text start prev ≡ Ok record_) × (expected ≡ Ok (record { start = start; end = end; record_ = record_ }))
 
-abbrev pub SaysGathered : Result ℕ Trouble → List ℕ → ℕ → PrevRule → Result Entry Halt → Type 0
-SaysGathered (Ok end) text start prev expected = IsEntry text start end prev expected
-SaysGathered (Err (Halts halt)) text start prev expected = expected ≡ Err halt
-SaysGathered (Err Log) text start prev expected = Unit {0}
-SaysGathered (Err Memory) text start prev expected = Unit {0}
-
 -- a record was read where an attempt expects it
 abbrev pub SaysAttempt : Result Taken Trouble → Gathering → PrevRule → Result Entry Halt → Type 0
 SaysAttempt (Ok taken) source prev expected = IsEntry (text_at source taken.start taken.lent) taken.start taken.end prev expected
@@ -32,12 +28,14 @@ SaysAttempt (Err (Halts halt)) source prev expected = expected ≡ Err halt
 SaysAttempt (Err Log) source prev expected = Unit {0}
 SaysAttempt (Err Memory) source prev expected = Unit {0}
 
--- the text is a record, whose end is this one where its text ends before `behind`
-abbrev pub SaysEnd : Result ℕ Trouble → List ℕ → ℕ → PrevRule → ℕ → ℕ → Type 0
-SaysEnd (Ok end) text start prev segsize behind = (record_ : Record) × (decoded text start prev ≡ Ok record_) × (end ≡ end_after segsize record_.head behind)
-SaysEnd (Err (Halts halt)) text start prev segsize behind = unless_faulty (decoded text start prev) ≡ Err halt
-SaysEnd (Err Log) text start prev segsize behind = Unit {0}
-SaysEnd (Err Memory) text start prev segsize behind = Unit {0}
+-- the text is a record, which ends where its text ends before `behind`
+abbrev pub SaysEnd : Result Taken Trouble → Gathering → ℕ → Option ℕ → PrevRule → ℕ → Type 0
+SaysEnd (Ok taken) source start lent prev behind =
+    (record_ : Record) × (decoded (text_at source start lent) start prev ≡ Ok record_)
+    × (taken ≡ record { start = start; end = end_after source.segsize record_.head behind; lent = lent; shape = taken.shape })
+SaysEnd (Err (Halts halt)) source start lent prev behind = unless_faulty (decoded (text_at source start lent) start prev) ≡ Err halt
+SaysEnd (Err Log) source start lent prev behind = Unit {0}
+SaysEnd (Err Memory) source start lent prev behind = Unit {0}
 
 -- where another record begins, if the one that was to be read was given up
 abbrev pub given_up_at : Result Taken Trouble → Option ℕ
@@ -68,7 +66,12 @@ SaysStep (Err (Halts halt)) source prev expected = expected ≡ Err (ended_by ha
 SaysStep (Err Log) source prev expected = Unit {0}
 SaysStep (Err Memory) source prev expected = Unit {0}
 
+-- the text is a record whose parts stand so
+pub record IsWhole (text : List ℕ) (start : ℕ) (prev : PrevRule) (shape : RecordShape) : Type 0 where
+  pub is : decoded text start prev ≡ Ok (shaped text shape)
+  pub has : HasShape text shape
+
 -- the record that was read is there and whole
-pub record IsRead (source : Gathering) (start : ℕ) (lent : Option ℕ) (prev : PrevRule) : Type 0 where
-  pub there : IsThere source start lent
-  pub whole : IsOk (decoded (text_at source start lent) start prev)
+pub record IsRead (source : Gathering) (taken : Taken) (prev : PrevRule) : Type 0 where
+  pub there : IsThere source taken.start taken.lent
+  pub whole : IsWhole (text_at source taken.start taken.lent) taken.start prev taken.shape

@@ -5,9 +5,9 @@ use Rattle.pg_types.specs.declared.names.Lsn.{Lsn}
 use Rattle.wal_record.specs.declared.types.PrevRule.{PrevRule}
 use Rattle.wal_record.specs.declared.types.PrevRule.TheVariants.{Is}
 use Rattle.wal_record.specs.declared.types.RecordFault.{RecordFault}
+use Rattle.wal_record.specs.declared.view.RecordShape.{RecordShape}
 use Rattle.wal_record.specs.Record.{Record}
 use Rattle.wal_record.specs.Decoded.{decoded}
-use Rattle.std.specs.Prelude.{IsOk}
 use Rattle.wal_reader.specs.declared.types.EndWhy.TheVariants.{Layout}
 use Rattle.wal_reader.specs.declared.types.Halt.TheVariants.{Stops, GivesUp}
 use Rattle.wal_reader.specs.declared.types.Taken.{Taken}
@@ -22,7 +22,7 @@ use Rattle.wal_reader.specs.declared.types.NoRecord.TheVariants.{End, Compressed
 use Rattle.wal_reader.specs.Step.{Entry}
 use Rattle.wal_reader.specs.Kept.{Covers, piece_of}
 use Rattle.wal_reader.specs.Calls.{Gathering}
-use Rattle.wal_reader.specs.Records.{IsEntry, ended_by}
+use Rattle.wal_reader.specs.Records.{IsEntry, IsWhole, ended_by}
 
 -- the position, the record before it, what texts are gathered from, and where the record last given begins and where the
 -- next one would stand
@@ -36,9 +36,9 @@ pub record Standing : Type 0 where
 abbrev pub record_given : Standing → Lsn × Lsn → Result Record RecordFault
 record_given standing given = decoded standing.source.text given.0.0 standing.prev
 
--- the text that was gathered is the record last given
-abbrev pub HasGiven : Standing → Type 0
-HasGiven standing = ForSome standing.given (λ given. IsOk (record_given standing given))
+-- the text that is shown is the record last given, whose parts stand so
+abbrev pub HasGiven : Option (Lsn × Lsn) → List ℕ → PrevRule → RecordShape → Type 0
+HasGiven given text prev shape = ForSome given (λ given. IsWhole text given.0.0 prev shape)
 
 -- past the record last given; where there is none, as it was
 abbrev pub past : Option (Lsn × Lsn) → Standing → Standing

@@ -1,16 +1,16 @@
-ghost use Rattle.std.specs.Prelude.{◌≡◌, ◌≢◌, ◌+◌, ◌-◌, ◌*◌, ◌^◌, ◌<◌, ◌≤◌, ℕ, [], length, Some, None, Ok, Err, IfOk, IfErr, IsOk, IsTrue};
+ghost use Rattle.std.specs.Prelude.{◌≡◌, ◌≢◌, ◌+◌, ◌-◌, ◌*◌, ◌^◌, ◌<◌, ◌≤◌, ℕ, [], length, Some, None, Ok, Err, IfOk, IfErr};
 ghost use Rattle.outside.specs.Faults.{Rose};
 ghost use Rattle.pg_types.specs.Names.{IsSegmentSize};
-ghost use Rattle.wal_record.specs.Decoded.{head_of, decoded};
+ghost use Rattle.wal_record.specs.Decoded.{head_of};
 ghost use Rattle.wal_reader.specs.Step as spec;
 ghost use Rattle.wal_reader.specs.Calls.{LogStays, WhereTold, Says, SaysHead, SaysSome, GivesUpPast, text_at, IsThere};
-ghost use Rattle.wal_reader.specs.Records.{SaysGathered, SaysAttempt, SaysEnd, IsRead};
+ghost use Rattle.wal_reader.specs.Records.{SaysAttempt, SaysEnd, IsRead};
 
 use crate::source::Source;
 use crate::types::{EndWhy, Halt, NoRecord, Taken, Trouble};
 use outside::LogBytes;
 use pg_types::{Lsn, u32_at};
-use wal_record::{PrevRule, RecordFault, RecordHead, decode, decode_head};
+use wal_record::{PrevRule, RecordFault, RecordHead, decode_head, lend, shape_of};
 
 impl Source {
     /// Reads the length of the record whose first byte stands at `start`, and answers it with the position
@@ -57,19 +57,19 @@ impl Source {
         Ok((total, end))
     }
 
-    /// Gathers the record whose first byte stands at `start`, and answers where the next record would stand.
+    /// Gathers the record whose first byte stands at `start`.
     fn gather_record<L: LogBytes>(
         &mut self,
         log: &mut L,
         start: u64,
         prev: PrevRule,
-    ) -> Result<u64, Trouble>
+    ) -> Result<Taken, Trouble>
         ensures same { self.new ≡ record self.old { kept = self.new.kept; text = self.new.text } }
-        ensures sound { IfOk result (λ _. IsOk (decoded self.new.text start prev)) }
-        ensures onward { IfOk result (λ end. (start < end) × (end ≤ 2 ^ 63 + 2 ^ 31)) }
+        ensures sound { IfOk result (λ taken. IsRead self.new taken prev) }
+        ensures onward { IfOk result (λ taken. (start < taken.end) × (taken.end ≤ 2 ^ 63 + 2 ^ 31)) }
         ensures given_up { IfErr result (GivesUpPast start) }
         ensures answer { WhereTold (L.told log.old) (L.owner_of log.old) self.old self.new
-            (λ told. SaysGathered result self.new.text start prev (spec.attempt told start prev)) }
+            (λ told. SaysAttempt result self.new prev (spec.attempt told start prev)) }
         ensures stays { LogStays (L.told log.old) (L.told log.new) (L.owner_of log.old) (L.owner_of log.new) (L.fault_count log.old) (L.fault_count log.new) }
         ensures same_log { L.same log.old log.new }
         ensures cause { result ≡ Err Trouble.Log → Rose (L.fault_count log.old) (L.fault_count log.new) }
@@ -88,7 +88,7 @@ impl Source {
         prev: PrevRule,
     ) -> Result<Taken, Trouble>
         ensures same { self.new ≡ record self.old { kept = self.new.kept; text = self.new.text } }
-        ensures sound { IfOk result (λ taken. IsRead self.new taken.start taken.lent prev) }
+        ensures sound { IfOk result (λ taken. IsRead self.new taken prev) }
         ensures onward { IfOk result (λ taken. (start < taken.end) × (taken.end ≤ 2 ^ 63 + 2 ^ 31)) }
         ensures given_up { IfErr result (GivesUpPast start) }
         ensures answer { WhereTold (L.told log.old) (L.owner_of log.old) self.old self.new
@@ -100,44 +100,36 @@ impl Source {
     {
         let found = self.whole(log, start)?;
         match found {
-            Some(len) => {
-                let end = self.end(start, prev, Some(len), start + len as u64)?;
-                Ok(Taken {
-                    start,
-                    end,
-                    lent: Some(len),
-                })
-            }
-            None => {
-                let end = self.gather_record(log, start, prev)?;
-                Ok(Taken {
-                    start,
-                    end,
-                    lent: None,
-                })
-            }
+            Some(len) => self.end(start, prev, Some(len), start + len as u64),
+            None => self.gather_record(log, start, prev),
         }
     }
 
-    /// Where the record's end is whose text ends before `behind`.
+    /// The record whose text ends before `behind`.
     fn end(
         &self,
         start: u64,
         prev: PrevRule,
         lent: Option<usize>,
         behind: u64,
-    ) -> Result<u64, Trouble>
+    ) -> Result<Taken, Trouble>
         requires bounded { behind ≤ 2 ^ 63 }
         requires there { IsThere self.now start lent }
-        ensures says { SaysEnd result (text_at self.now start lent) start prev self.now.segsize behind }
-        ensures sound { IfOk result (λ _. IsOk (decoded (text_at self.now start lent) start prev)) }
-        ensures onward { IfOk result (λ end. (behind ≤ end) × (end ≤ 2 ^ 63 + 2 ^ 31)) }
+        ensures says { SaysEnd result self.now start lent prev behind }
+        ensures sound { IfOk result (λ taken. IsRead self.now taken prev) }
+        ensures onward { IfOk result (λ taken. (behind ≤ taken.end) × (taken.end ≤ 2 ^ 63 + 2 ^ 31)) }
         ensures given_up { IfErr result (λ trouble. (at : ℕ) → GivesUpPast at trouble) }
         ensures no_log { result ≡ Err Trouble.Log → ⊥ }
     {
-        match decode(self.text_at(start, lent), Lsn(start), prev) {
-            Ok(view) => Ok(end_of(self.segsize(), view.head(), behind)),
+        let text = self.text_at(start, lent);
+        match shape_of(text, Lsn(start), prev) {
             Err(fault) => Err(Trouble::Halts(Halt::Stops(stop_of(fault)))),
+            Ok(shape) => Ok(Taken {
+                start,
+                end: end_of(self.segsize(), lend(text, shape).head(), behind),
+                lent,
+                shape,
+            }),
         }
     }
 }

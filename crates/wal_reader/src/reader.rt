@@ -12,7 +12,7 @@ use outside::LogBytes;
 use pg_types::{Lsn, NoMemory};
 use std::alloc::Global;
 use std::marker::Model;
-use wal_record::{PrevRule, RecordView, lend};
+use wal_record::{PrevRule, RecordShape, RecordView, lend};
 
 /// Reads the records of a log one after the other. It keeps up to 64 KiB of the log between two
 /// calls, which the next call takes for what the log has there.
@@ -25,16 +25,18 @@ pub struct Reader {
     lent: Option<(u64, usize)>,
     /// Where the record last given begins, and where the next one would stand.
     given: Option<(Lsn, Lsn)>,
+    /// Where that record's parts stand in its text.
+    shape: RecordShape,
 }
 
 impl Model for Reader {
-    ghost use Rattle.wal_reader.specs.Standing.{Standing, HasGiven, IsLent, shown};
+    ghost use Rattle.wal_reader.specs.Standing.{Standing, HasGiven, IsLent, shown, shown_text};
 
     ghost Value = { Standing };
 
     ghost view = { λ r. record { at = r.at; prev = r.prev; source = shown r.source r.lent; given = r.given } };
 
-    ghost invariant = { λ r. IsLent r.source r.lent × HasGiven (record { at = r.at; prev = r.prev; source = shown r.source r.lent; given = r.given }) };
+    ghost invariant = { λ r. IsLent r.source r.lent × HasGiven r.given (shown_text r.source r.lent) r.prev r.shape };
 }
 
 impl Reader {
@@ -62,6 +64,7 @@ impl Reader {
             source,
             lent: None,
             given: None,
+            shape: RecordShape::BARE,
         })
     }
 
@@ -91,8 +94,7 @@ impl Reader {
         requires { IsSome self.now.given }
         ensures { IfSome self.now.given (λ given. record_given self.now given ≡ Ok result) }
     {
-        let (start, _) = self.given.unwrap();
-        lend(self.text(), start, self.prev)
+        lend(self.text(), self.shape)
     }
 
     /// Moves past the record last given. Where the last call was not a `next` that gave one, it changes nothing.
@@ -123,6 +125,7 @@ impl Reader {
         self.lent = None;
         let taken = self.source.step(log, self.at.0, self.prev)?;
         self.lent = lent_at(taken.start, taken.lent);
+        self.shape = taken.shape;
         self.given = Some((Lsn(taken.start), Lsn(taken.end)));
         Ok(taken)
     }

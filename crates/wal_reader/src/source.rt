@@ -105,15 +105,14 @@ impl Source {
         ensures uncounted { result ≢ Err Fail.Failed → L.fault_count log.new ≡ L.fault_count log.old }
     {
         let room = PAGE - (start % 8192) as usize;
-        if room < 24 || room == PAGE || !self.window.cover(log, start, 24)? {
+        if room < 24 || room == PAGE || !self.window.cover(log, start, room)? {
             return Ok(None);
         }
-        let len = u32_at(self.window.piece(start, 24), 0) as usize;
-        if len < 24 || len > room || !self.window.cover(log, start, len)? {
+        let len = u32_at(self.window.piece(start, room), 0) as usize;
+        if len < 24 || len > room {
             return Ok(None);
         }
-        let again = u32_at(self.window.piece(start, len), 0) as usize;
-        Ok(if again == len { Some(len) } else { None })
+        Ok(Some(len))
     }
 
     pub fn segsize(&self) -> u32

@@ -2,14 +2,15 @@ ghost use Rattle.std.specs.Prelude.{◌≡◌, ◌≢◌, ◌+◌, ◌^◌, ◌<
 ghost use Rattle.outside.specs.Faults.{Rose};
 ghost use Rattle.wal_record.specs.Decoded.{decoded};
 ghost use Rattle.wal_record.specs.Record.{Record};
+ghost use Rattle.wal_record.specs.Shapes.{HasShape, shaped};
 ghost use Rattle.wal_reader.specs.Step as spec;
-ghost use Rattle.wal_reader.specs.Calls.{LogStays, WhereTold, text_at};
+ghost use Rattle.wal_reader.specs.Calls.{IsThere, LogStays, WhereTold, text_at};
 ghost use Rattle.wal_reader.specs.Records.{SaysStep, given_up_at, trouble_in_place, IsRead};
 
 use crate::source::Source;
 use crate::types::{EndWhy, Halt, NoRecord, Taken, Trouble};
 use outside::LogBytes;
-use pg_types::{Lsn, u64_at};
+use pg_types::u64_at;
 use wal_record::{PrevRule, lend};
 
 impl Source {
@@ -22,7 +23,7 @@ impl Source {
         prev: PrevRule,
     ) -> Result<Taken, Trouble>
         ensures same { self.new ≡ record self.old { kept = self.new.kept; text = self.new.text } }
-        ensures sound { IfOk result (λ taken. IsRead self.new taken.start taken.lent prev) }
+        ensures sound { IfOk result (λ taken. IsRead self.new taken prev) }
         ensures onward { IfOk result (λ taken. (at < taken.end) × (taken.end ≤ 2 ^ 63 + 2 ^ 31)) }
         ensures answer { WhereTold (L.told log.old) (L.owner_of log.old) self.old self.new
             (λ told. SaysStep result self.new prev (spec.step told at prev)) }
@@ -48,7 +49,7 @@ impl Source {
         prev: PrevRule,
     ) -> Result<Taken, Trouble>
         ensures same { self.new ≡ record self.old { kept = self.new.kept; text = self.new.text } }
-        ensures sound { IfOk result (λ taken. IsRead self.new taken.start taken.lent prev) }
+        ensures sound { IfOk result (λ taken. IsRead self.new taken prev) }
         ensures onward { IfOk result (λ taken. (place < taken.end) × (taken.end ≤ 2 ^ 63 + 2 ^ 31)) }
         ensures answer { WhereTold (L.told log.old) (L.owner_of log.old) self.old self.new
             (λ told. SaysStep result self.new prev (spec.in_place_of begun (spec.attempt told place prev))) }
@@ -65,13 +66,13 @@ impl Source {
 
     /// The record that was read, if it says that the one that began at `begun` was given up.
     fn replacing(&self, begun: u64, taken: Taken, prev: PrevRule) -> Result<Taken, Trouble>
-        requires { IsRead self.now taken.start taken.lent prev }
+        requires { IsRead self.now taken prev }
         ensures same { IfOk result (λ found. found ≡ taken) }
         ensures answer { (read : Record) → decoded (text_at self.now taken.start taken.lent) taken.start prev ≡ Ok read
             → SaysStep result self.now prev (spec.in_place_of begun (Ok (record { start = taken.start; end = taken.end; record_ = read }))) }
         ensures no_log { result ≡ Err Trouble.Log → ⊥ }
     {
-        if self.overwrites(begun, taken.start, taken.lent, prev) {
+        if self.overwrites(begun, taken) {
             Ok(taken)
         } else {
             Err(Trouble::Halts(Halt::Stops(NoRecord::End(EndWhy::Layout))))
@@ -79,11 +80,12 @@ impl Source {
     }
 
     /// Whether the record that was read says that the one that began at `begun` was given up.
-    fn overwrites(&self, begun: u64, place: u64, lent: Option<usize>, prev: PrevRule) -> bool
-        requires { IsRead self.now place lent prev }
-        ensures { (found : Record) → decoded (text_at self.now place lent) place prev ≡ Ok found → result ≡ spec.overwrites begun found }
+    fn overwrites(&self, begun: u64, taken: Taken) -> bool
+        requires there { IsThere self.now taken.start taken.lent }
+        requires has { HasShape (text_at self.now taken.start taken.lent) taken.shape }
+        ensures { result ≡ spec.overwrites begun (shaped (text_at self.now taken.start taken.lent) taken.shape) }
     {
-        let view = lend(self.text_at(place, lent), Lsn(place), prev);
+        let view = lend(self.text_at(taken.start, taken.lent), taken.shape);
         let head = view.head();
         let main = view.main();
         head.manager == 0 && head.info & 0xF0 == 0xD0 && main.len() >= 8 && u64_at(main, 0) == begun

@@ -2,6 +2,7 @@ ghost use Rattle.std.specs.Prelude.{◌≡◌};
 
 use pg_types::{Fail, Lsn};
 use thiserror::Error;
+use wal_record::RecordShape;
 
 /// The rule that is the log's end (`ReadRecord`, xlogrecovery.c), in the order in which they are tried.
 #[derive(Clone, Copy, Debug, PartialEq, Eq)]
@@ -87,11 +88,12 @@ impl From<Fail> for Trouble {
     }
 }
 
-/// A record that was read: where it begins, where the next one would stand, and its length where it stands
-/// whole among the bytes that are kept.
-#[derive(Clone, Copy, Debug, PartialEq, Eq)]
+/// A record that was read: where it begins, where the next one would stand, its length where it stands
+/// whole among the bytes that are kept, and where its parts stand in it.
+#[derive(Clone, Copy, Debug)]
 pub struct Taken {
     pub start: u64,
     pub end: u64,
     pub lent: Option<usize>,
+    pub shape: RecordShape,
 }

@@ -11,3 +11,4 @@ pub mod Written
 pub mod EncodedRead
 pub mod Comparisons
 pub mod OfBytes
+pub mod Shaping

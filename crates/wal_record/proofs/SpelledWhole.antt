@@ -102,6 +102,10 @@ head_of-takes bytes at rule head e =
       is = sym (same_head found head t.1);
     }
 
+pub head-fields : (bytes : List ℕ) (at : ℕ) (rule : PrevRule) (head : RecordHead) → head_of bytes at rule ≡ Ok head → head ≡ fields_of bytes
+unfolding fields_of
+head-fields bytes at rule head e = let t = head_of-takes bytes at rule head e in t.is
+
 -- the whole record was there, with a right CRC
 record IsWhole (head : RecordHead) (bytes : List ℕ) (r : Record) : Type 0 where
   long_enough : length bytes ≡ head.total

@@ -5,3 +5,4 @@ pub mod Views
 pub mod Spelling
 pub mod New
 pub mod OfBytes
+pub mod Shapes

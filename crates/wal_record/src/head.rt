@@ -45,8 +45,9 @@ fn total(bytes: &[u8]) -> Result<u32, RecordFault>
     }
 }
 
+/// The fields of the header at the front.
 #[tactic(auto, unfolding(crate::specs::Decoded::fields_of))]
-fn fields(bytes: &[u8]) -> RecordHead
+pub(crate) fn fields(bytes: &[u8]) -> RecordHead
     requires { 18 ≤ length bytes.now }
     ensures exact { result ≡ fields_of bytes.now }
     ensures total { result.total ≡ number_at 4 bytes.now 0 }

@@ -16,4 +16,4 @@ pub use head::decode_head;
 pub use laws::{encoded_is_read, read_is_of_bytes, read_is_spelled, spelled_is_read};
 pub use new::{NewBlock, NewBlocks, NewImage, NewRecord};
 pub use types::{BlockView, ImageView, PrevRule, RecordFault, RecordHead};
-pub use view::{RecordView, decode, lend};
+pub use view::{RecordShape, RecordView, decode, lend, shape_of};

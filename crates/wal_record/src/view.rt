@@ -1,10 +1,12 @@
-ghost use Rattle.std.specs.Prelude.{◌≡◌, ◌+◌, ◌≤◌, ◌<◌, ◌^◌, length, option_map, Ok, IsOk};
+ghost use Rattle.std.specs.Prelude.{◌≡◌, ◌+◌, ◌≤◌, ◌<◌, ◌^◌, drop, length, option_map, IfOk};
 ghost use Rattle.wal_record.specs.Parts.{image_length};
+ghost use Rattle.wal_record.specs.declared.types.RecordHead.{RecordHead};
 ghost use Rattle.wal_record.specs.Decoded.{decoded, whole, laid_out, walked, block_with_id, blocks_in, block_in, image_in, IsParted};
+ghost use Rattle.wal_record.specs.Shapes.{HasShape, SaysLaid, SaysShape, shaped};
 ghost use Rattle.wal_record.specs.Record.{block_by_id};
 ghost use Rattle.wal_record.specs.Views.{block_of_view, image_of_view};
 
-use crate::head::{HEADER, decode_head, has_right_crc};
+use crate::head::{HEADER, decode_head, fields, has_right_crc};
 use crate::parts::{BlockHeader, ImageHeader, Part, Seen, image_length, next_part};
 use crate::types::{BlockView, ImageView, PrevRule, RecordFault, RecordHead};
 use pg_types::Lsn;
@@ -34,6 +36,23 @@ impl<'a> Model for RecordView<'a> {
     ghost invariant = { λ v. IsParted v.text.now v.payloads.now };
 }
 
+/// Where the parts of a record stand in its bytes, as `shape_of` found it.
+#[derive(Clone, Copy, Debug)]
+pub struct RecordShape {
+    /// The length of the parts' headers.
+    headers: usize,
+    /// The length of the blocks' payloads.
+    blocks: usize,
+}
+
+impl RecordShape {
+    /// The shape of a record that is nothing but its header, which stands where none was read yet.
+    pub const BARE: RecordShape = RecordShape {
+        headers: 0,
+        blocks: 0,
+    };
+}
+
 /// The record that the bytes are, with page headers taken out, at the position `at`. It takes no
 /// memory, and copies nothing.
 ///
@@ -41,61 +60,65 @@ impl<'a> Model for RecordView<'a> {
 /// The faults in their order in `RecordFault`, the first that comes. Where the bytes end before a field
 /// that a test reads, it is `Layout` at that test; another number of bytes than the length field's is
 /// `Layout`, tested before `Crc`.
-#[tactic(auto, unfolding(crate::specs::Decoded::decoded))]
 pub fn decode<'a>(bytes: &'a [u8], at: Lsn, prev: PrevRule) -> Result<RecordView<'a>, RecordFault>
     ensures { result ≡ decoded bytes.now at.0 prev }
 {
-    match decode_head(bytes, at, prev) {
+    match shape_of(bytes, at, prev) {
         Err(fault) => Err(fault),
-        Ok(head) => whole(head, bytes),
+        Ok(shape) => Ok(lend(bytes, shape)),
     }
 }
 
-#[tactic(auto, unfolding(crate::specs::Decoded::whole))]
-fn whole<'a>(head: RecordHead, bytes: &'a [u8]) -> Result<RecordView<'a>, RecordFault>
-    requires { 24 ≤ head.total }
-    ensures { result ≡ whole head bytes.now }
+/// Where the parts of that record stand in its bytes: all tests of `decode`, with its faults, and what
+/// lends the record from then on.
+#[tactic(auto, unfolding(crate::specs::Decoded::decoded))]
+pub fn shape_of(bytes: &[u8], at: Lsn, prev: PrevRule) -> Result<RecordShape, RecordFault>
+    ensures { SaysShape result bytes.now (decoded bytes.now at.0 prev) }
 {
-    if bytes.len() != head.total as usize {
+    match decode_head(bytes, at, prev) {
+        Err(fault) => Err(fault),
+        Ok(head) => whole(head.total, bytes),
+    }
+}
+
+/// The record whose parts stand so in its bytes. It reads the header's fields again, and neither the headers
+/// of the parts nor the CRC.
+pub fn lend<'a>(bytes: &'a [u8], shape: RecordShape) -> RecordView<'a>
+    requires { HasShape bytes.now shape }
+    ensures { result ≡ shaped bytes.now shape }
+{
+    let (_, text) = bytes.split_at(HEADER);
+    let (_, payloads) = text.split_at(shape.headers);
+    let (_, main) = payloads.split_at(shape.blocks);
+    RecordView {
+        head: fields(bytes),
+        text,
+        payloads,
+        main,
+    }
+}
+
+/// Where the parts stand in bytes whose header says that they are `total`.
+#[tactic(auto, unfolding(crate::specs::Decoded::whole))]
+fn whole(total: u32, bytes: &[u8]) -> Result<RecordShape, RecordFault>
+    requires { 24 ≤ total }
+    ensures says { (head : RecordHead) → head.total ≡ total → SaysLaid result head (drop 24 bytes.now) (whole head bytes.now) }
+    ensures long { IfOk result (λ _. 24 ≤ length bytes.now) }
+{
+    if bytes.len() != total as usize {
         return Err(RecordFault::Layout);
     }
     if !has_right_crc(bytes) {
         return Err(RecordFault::Crc);
     }
     let (_, text) = bytes.split_at(HEADER);
-    laid_out(head, text)
+    laid_out(text)
 }
 
-/// The record that the bytes are known to be, as `decode` of the same bytes answered. It reads the
-/// headers of the parts again, and not the CRC.
-#[tactic(auto, unfolding(crate::specs::Decoded::decoded))]
-pub fn lend<'a>(bytes: &'a [u8], at: Lsn, prev: PrevRule) -> RecordView<'a>
-    requires { IsOk (decoded bytes.now at.0 prev) }
-    ensures { decoded bytes.now at.0 prev ≡ Ok result }
-{
-    match decode_head(bytes, at, prev) {
-        Err(_) => unreachable!(),
-        Ok(head) => lend_whole(head, bytes),
-    }
-}
-
-#[tactic(auto, unfolding(crate::specs::Decoded::whole))]
-fn lend_whole<'a>(head: RecordHead, bytes: &'a [u8]) -> RecordView<'a>
-    requires long { 24 ≤ head.total }
-    requires known { IsOk (whole head bytes.now) }
-    ensures { whole head bytes.now ≡ Ok result }
-{
-    let (_, text) = bytes.split_at(HEADER);
-    match laid_out(head, text) {
-        Err(_) => unreachable!(),
-        Ok(view) => view,
-    }
-}
-
-/// The record by its header and the text behind it.
-fn laid_out<'a>(head: RecordHead, text: &'a [u8]) -> Result<RecordView<'a>, RecordFault>
+/// Where the parts stand in the text behind a record's header.
+fn laid_out(text: &[u8]) -> Result<RecordShape, RecordFault>
     requires { length text.now < 2 ^ 32 }
-    ensures { result ≡ laid_out head text.now }
+    ensures { (head : RecordHead) → SaysLaid result head text.now (laid_out head text.now) }
 {
     let Some((seen, payloads)) = walk(text) else {
         return Err(RecordFault::Layout);
@@ -106,12 +129,9 @@ fn laid_out<'a>(head: RecordHead, text: &'a [u8]) -> Result<RecordView<'a>, Reco
     if seen.compressed {
         return Err(RecordFault::Compressed);
     }
-    let (_, main) = payloads.split_at(seen.blocks);
-    Ok(RecordView {
-        head,
-        text,
-        payloads,
-        main,
+    Ok(RecordShape {
+        headers: text.len() - payloads.len(),
+        blocks: seen.blocks,
     })
 }
 

@@ -8,7 +8,7 @@ use Rattle.xact_redo.specs.TransactionsOf.{transaction_of, transactions_of}
 use Rattle.row_model.specs.WorkedRows.{worked_ids, worked_log}
 use Rattle.worked_logs.specs.BrokenLogs.{checkpoint_again, checkpoint_alone, running_again, shutdown_elsewhere}
 use Rattle.known_assigned.specs.declared.state.RunningHead.{RunningHead}
-use Rattle.transaction_model.proofs.NoIds.{among_one, none_at, nothing_head, nothing_rule}
+use Rattle.transaction_model.proofs.NoIds.{among_one, none_ended_at, nothing_head, nothing_rule}
 
 -- an id that is seen is among those of the log
 pub at_most : (n m x : ℕ) (b : Bool) → n < m → (b ≡ true → x < m) → ((n == x) || b) ≡ true → x < m
@@ -63,7 +63,7 @@ not_ended x high =
     or_from (is_among x (701 ∷ [])) _ (not_one 701 x (omega arith))
     (or_from (is_among x (700 ∷ [])) _ (not_one 700 x (omega arith))
     (or_from (nat_lt x 700) _ (le-ltb x 700 (omega arith))
-    (none_at x (omega arith))))
+    (none_ended_at x (omega arith))))
 
 is_next : IsNext worked_ids.at 702 (transactions_of worked_log)
 unfolding greatest_next transaction_of

@@ -1,5 +1,5 @@
 -- A standby that replays the files, and what a scan of it answers.
-use Rattle.std.proofs.Common.{◌≡◌, ℕ, Bool, true, false, nat_lt, ◌==◌, [], ◌∷◌, Result, Ok, Err, arith, inl, inr, refl, sym, subst, ◌∙◌}
+use Rattle.std.proofs.Common.{◌≡◌, ℕ, Bool, true, false, nat_lt, ◌==◌, Option, Some, Result, Ok, Err, arith, inl, inr, refl, sym, ap, subst, ◌∙◌}
 use Rattle.std.proofs.lemmas.Bool.{cases_eq, le-ltb, ne_eqb}
 use Rattle.std.specs.Prelude.{codes}
 use Rattle.pg_types.specs.Numbers.{number_at}
@@ -17,15 +17,18 @@ use Rattle.tuple_visibility.specs.Visible.{deleter_of, inserter_counts, visible_
 use Rattle.xact_redo.specs.State.{before_records, state_after}
 use Rattle.wal_reader.specs.declared.types.EndWhy.TheVariants.{Zero}
 use Rattle.wal_bodies.specs.declared.types.Rec.{Rec}
+use Rattle.table_schema.specs.Description.{Description}
 use Rattle.schema_file.specs.SchemaFile.{Read}
 use Rattle.seq_scan.specs.BlockRows.{block_rows, rows_from}
 use Rattle.standby_core.specs.Standby.{Standby, at_origin}
 use Rattle.standby_model.specs.Log.{Stop, Ended}
 use Rattle.scan_model.specs.Run.{replayed, start}
-use Rattle.scan_model.specs.Scan.{Answers, AnswersLog, AnswersNext, Scans, Starts, AnswersOpening, AnswersRows, Scanned, is_admitted, is_there, page_of, pages_from}
+use Rattle.scan_model.specs.Tables.{number_named, table_with}
+use Rattle.scan_model.proofs.Runs.{set_up}
+use Rattle.scan_model.specs.Scan.{Answers, AnswersLog, AnswersNext, Scans, Starts, AnswersOpening, AnswersRows, AnswersTable, Scanned, is_admitted, is_there, page_of, pages_from}
 use Rattle.worked_archive.specs.WorkedArchive.{IsWorkedArchive, files, log}
 use Rattle.worked_premise.specs.Premise.{reply, words}
-use Rattle.worked_premise.specs.WorkedSchema.{base, table_t, tables}
+use Rattle.worked_premise.specs.WorkedSchema.{base, tables}
 use Rattle.worked_premise.proofs.Schema.{schema_is_read}
 use Rattle.worked_premise.proofs.Told.{is_log}
 
@@ -64,15 +67,20 @@ count block =
           ∙ sym (le-ltb block 1 (omega (arith, ne)))
     ]
 
-says : reply ≡ Scanned node.at.0 table_t 1 (pages_from (page_of node 0) 0 1)
+says : reply ≡ Scanned node.at.0 (table_with node.tables 0) 1 (pages_from (page_of node 0) 0 1)
 unfolding redone redone_at redone_block after after_change changed_page changed put_listed put tuple_of head_bytes put_answer is_tuple is_tuple_head with_item number_at at_origin view_with with_seen grown state_after before_records after_observe after_running past_oldest made_anew after_end unobserved pages_from block_rows rows_from visible_of inserter_counts deleter_of in_progress take_of row_of cells_from column_value has_value span_of varlena_at cell_of max_of is_lock_only
 says = refl
 
 answers_rows : AnswersRows node 0 reply
 answers_rows = record { blocks = 1; count = count; says = says }
 
+named : number_named node.tables (codes "t") ≡ Some 0
+named = ap (λ (t : Description). number_named t (codes "t")) (set_up tables log node is_replayed).tables_is
+
 answers_end : AnswersNext (codes "t") node (Err (Ended Zero)) reply
-answers_end = subst (λ (is : Bool). AnswersOpening node 0 is reply) (sym admitted) answers_rows
+answers_end =
+    subst (λ (o : Option ℕ). AnswersTable node o reply) (sym named)
+    (subst (λ (is : Bool). AnswersOpening node 0 is reply) (sym admitted) answers_rows)
 
 -- the words begin a scan over the tables that the text describes
 pub starts : Starts words base (Scans tables (codes "t"))

@@ -1,5 +1,5 @@
 -- The text of the description, read in the logic.
-use Rattle.std.proofs.Common.{◌≡◌, ℕ, pos, List, [], ◌∷◌, Option, Some, None, Result, Ok, refl, sym, codes}
+use Rattle.std.proofs.Common.{◌≡◌, ℕ, pos, List, Some, Ok, refl, sym, codes}
 use Rattle.std.specs.Float.Numeral.{scan_numeral}
 use Rattle.std.specs.Prelude.{IsUtf8}
 use Rattle.toml_parser.specs.Lexical.{skip_ws, skip_from}

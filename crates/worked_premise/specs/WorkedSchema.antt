@@ -1,8 +1,7 @@
 -- The description of the example: t and u of database 16384.
 -- Sources: pg_class.h, pg_attribute.h.
-use Rattle.std.specs.Prelude.{◌≡◌, ℕ, List, [], ◌∷◌, ◌++◌, Option, Some, None, Ok, nat_eq, codes, if◌then◌else◌}
+use Rattle.std.specs.Prelude.{ℕ, List, [], ◌∷◌, ◌++◌, Option, Some, None, Ok, nat_eq, codes, if◌then◌else◌}
 use Rattle.std.specs.Cmp.Lexicographic.{pointwise}
-use Rattle.heap_tuple.specs.declared.cell.Column.{Column}
 use Rattle.heap_tuple.specs.declared.cell.Kind.TheVariants.{Int4, Text}
 use Rattle.table_schema.specs.Description.{Description, DescribedTable}
 use Rattle.table_schema.specs.Reading.{Answers}

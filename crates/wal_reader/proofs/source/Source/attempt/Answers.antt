@@ -1,5 +1,4 @@
-use Rattle.std.proofs.Common.{◌≡◌, refl, sym, ap, subst, ℕ, Some, Ok, Err, arith}
-use Rattle.std.proofs.lemmas.Result.{err_from_is_err_and}
+use Rattle.std.proofs.Common.{◌≡◌, refl, sym, ap, subst, ℕ, Some, arith}
 use Rattle.std.proofs.lemmas.Option.{same_Some}
 use Rattle.wal_reader.specs.Told.{told_bytes}
 use Rattle.wal_reader.specs.Kept.{Covers, piece_of}
@@ -26,37 +25,18 @@ end-requires-clause-there g c =
     let page = c.in_ok-found.ensures.there c.in-Some.len c.in-Some.is in
     λ x e. subst (λ (n : ℕ). Covers c.whole.new.self.kept c.args.start n) (same_Some c.in-Some.len x e) page.covered
 
-pub returns-in_err-end-in-Some-clause-answer : goal.returns-in_err-end-in-Some-clause-answer
-returns-in_err-end-in-Some-clause-answer g c =
+pub returns-in-Some-clause-answer : goal.returns-in-Some-clause-answer
+returns-in-Some-clause-answer g c =
     let old = c.args.self.now in
     let new = c.whole.new.self in
     let len = c.in-Some.len in
     let page = c.in_ok-found.ensures.there c.in-Some.len c.in-Some.is in
     let same = c.in_ok-found.ensures.same in
-    let e = c.in_err-end-in-Some.field-0.0 in
-    let p = err_from_is_err_and c.from_residual-in_err-end-in-Some.result c.from_residual-in_err-end-in-Some.ensures.1 in
-    rw (p.1, p.2) (where_map (g.L.LogBytes.told c.args.log.now) (g.L.LogBytes.owner_of c.args.log.now) old new new
-    (λ told. told_bytes told.byte len c.args.start ≡ Some (piece_of new.kept c.args.start len))
-    (λ told. SaysAttempt (Err e) new c.args.prev (attempt told c.args.start c.args.prev))
-    refl
-    (λ byte all. steps.lent_says (told_to old byte (g.L.LogBytes.owner_of c.args.log.now)) new c.args.start len c.args.prev (Err e) page
-    (sym (ap (λ (s : Gathering). s.segsize) same)) all c.in_err-end-in-Some.ensures.says)
-    (where_found (g.L.LogBytes.told c.args.log.now) (g.L.LogBytes.owner_of c.args.log.now) old new c.in_ok-found.found len
-    (λ byte n. told_bytes byte n c.args.start ≡ Some (piece_of new.kept c.args.start n)) c.in-Some.is c.in_ok-found.ensures.told c.in_ok-found.ensures.answer))
-
-pub returns-in_ok-end-in-Some-clause-answer : goal.returns-in_ok-end-in-Some-clause-answer
-returns-in_ok-end-in-Some-clause-answer g c =
-    let old = c.args.self.now in
-    let new = c.whole.new.self in
-    let len = c.in-Some.len in
-    let page = c.in_ok-found.ensures.there c.in-Some.len c.in-Some.is in
-    let same = c.in_ok-found.ensures.same in
-    let end = c.in_ok-end-in-Some.end in
     where_map (g.L.LogBytes.told c.args.log.now) (g.L.LogBytes.owner_of c.args.log.now) old new new
     (λ told. told_bytes told.byte len c.args.start ≡ Some (piece_of new.kept c.args.start len))
-    (λ told. SaysAttempt (Ok (record { start = c.args.start; end = end; lent = Some len })) new c.args.prev (attempt told c.args.start c.args.prev))
+    (λ told. SaysAttempt c.end.result new c.args.prev (attempt told c.args.start c.args.prev))
     refl
-    (λ byte all. steps.lent_says (told_to old byte (g.L.LogBytes.owner_of c.args.log.now)) new c.args.start len c.args.prev (Ok end) page
-    (sym (ap (λ (s : Gathering). s.segsize) same)) all c.in_ok-end-in-Some.ensures.says)
+    (λ byte all. steps.lent_says (told_to old byte (g.L.LogBytes.owner_of c.args.log.now)) new c.args.start len c.args.prev c.end.result page
+    (sym (ap (λ (s : Gathering). s.segsize) same)) all c.end.ensures.says)
     (where_found (g.L.LogBytes.told c.args.log.now) (g.L.LogBytes.owner_of c.args.log.now) old new c.in_ok-found.found len
     (λ byte n. told_bytes byte n c.args.start ≡ Some (piece_of new.kept c.args.start n)) c.in-Some.is c.in_ok-found.ensures.told c.in_ok-found.ensures.answer)
