@@ -92,7 +92,7 @@ fn show_parameters(answer: &mut Answer, kind: &RecKind<'_>) {
 fn show_xacts(answer: &mut Answer, rec: &Rec<'_>) {
     match &rec.kind {
         RecKind::Ended { time, xinfo, xids } => {
-            answer.say(if rec.is_commit() {
+            answer.say(if rec.head.info & 0x70 == 0 {
                 "commit time "
             } else {
                 "abort time "

@@ -7,8 +7,8 @@ use Rattle.heap_tuple.specs.declared.cell.Column.{Column}
 use Rattle.heap_page.specs.Page.{is_page, lsn_of, items_of}
 use Rattle.page_store.specs.declared.pool.PoolFault.{PoolFault}
 use Rattle.page_store.specs.declared.pool.PoolFault.TheVariants.{BadPage}
-use Rattle.page_store.specs.Content.{page_answer, seen as read}
-use Rattle.heap_redo.specs.Redone.{bad_block, seen_page, seen}
+use Rattle.page_store.specs.Content.{page_answer, lent_to_read as read}
+use Rattle.page_store.specs.Seen.{bad_block, seen_page, seen}
 use Rattle.pg_types.specs.declared.fail.NoMemory.{NoMemory}
 use Rattle.seq_scan.specs.declared.rows.BlockRows.{BlockRows as RowsRead}
 use Rattle.seq_scan.specs.Meaning.{meaning}

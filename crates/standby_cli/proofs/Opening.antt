@@ -8,7 +8,7 @@ use Rattle.pg_types.specs.declared.names.Lsn.{Lsn}
 use Rattle.page_store.specs.declared.pool.Pool.{Pool}
 use Rattle.page_store.specs.Content.{Blocks, content}
 use Rattle.commit_log.specs.Log.{status_of as statuses_in}
-use Rattle.heap_redo.specs.Redone.{View, bad_block, seen, seen_page, view_of}
+use Rattle.page_store.specs.Seen.{View, bad_block, seen, seen_page, view_of}
 use Rattle.known_assigned.specs.declared.state.State.{State}
 use Rattle.known_assigned.specs.declared.state.State.TheVariants.{Initialized, Pending, Ready}
 use Rattle.seq_scan.specs.BlockRows.{BlockRows, block_rows}
@@ -19,25 +19,21 @@ use Rattle.xact_redo.specs.State.{TransactionState, transactions}
 use Rattle.xact_redo.specs.Sees.{sees}
 use Rattle.standby_core.specs.declared.types.NodeStatus.{NodeStatus}
 use Rattle.standby_core.specs.Standby.{Standby}
-use Rattle.standby_core.specs.View.{status_of}
+use Rattle.standby_core.specs.View.{node_status}
 use Rattle.scan_model.specs.Scan.{AnswersOpening, AnswersRows, NotAdmitted, Scanned, is_admitted, is_ready, is_there, pages_from}
 use Rattle.scan_model.specs.Tables.{table_with}
 use Rattle.standby_cli.specs.Meaning.{page_in}
 use Rattle.standby_cli.specs.Replays.{bare}
+use Rattle.legal_scan.proofs.Answered.{ready_when}
 
 pub not_admitted :
-    (node : Standby) (table : ℕ) (status : NodeStatus) (test : Bool) → status ≡ status_of node → test ≡ is_admitted node
+    (node : Standby) (table : ℕ) (status : NodeStatus) (test : Bool) → status ≡ node_status node → test ≡ is_admitted node
     → test ≡ false
     → AnswersOpening (bare node) table (is_admitted (bare node)) (NotAdmitted status.min.0 status.at.0 status.awaited status.state)
-unfolding status_of
+unfolding node_status
 not_admitted node table status test e f g =
     subst (λ (b : Bool). AnswersOpening (bare node) table b (NotAdmitted status.min.0 status.at.0 status.awaited status.state)) (sym g ∙ f)
     (ap (λ (s : NodeStatus). NotAdmitted s.min.0 s.at.0 s.awaited s.state) e)
-
-ready_when : (mode : State) → is_ready mode ≡ true → mode ≡ Ready
-ready_when Initialized e = cc
-ready_when (Pending until) e = cc
-ready_when Ready e = refl
 
 -- where scans are admitted the running transactions are known
 pub is_known : (node : Standby) (test : Bool) → test ≡ is_admitted node → test ≡ true → node.transactions.known.mode ≡ Ready

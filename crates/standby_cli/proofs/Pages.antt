@@ -4,8 +4,8 @@ use Rattle.std.specs.Prelude.{if◌then◌else◌}
 use Rattle.pg_types.specs.declared.fail.Fail.{Fail}
 use Rattle.outside.specs.Sink.{Appends}
 use Rattle.seq_scan.specs.BlockRows.{BlockEnd, BlockRows, Whole, ToastedAt, BadAt, UnknownAt, NoPage}
-use Rattle.scan_model.specs.Scan.{Reply, BadWords, LogRefused, NoTable, NotAdmitted, Scanned, column_name, end_line, is_whole, line, page_text, place_text, row_line, pages_from, pages_text, status_after, status_at, status_of}
-use Rattle.standby_cli.specs.Outcome.{AppendsLines, IsLines, IsReplied, WroteSome}
+use Rattle.scan_model.specs.Scan.{Answer, BadWords, LogRefused, NoTable, NotAdmitted, Scanned, column_name, end_line, is_whole, line, page_text, place_text, row_line, pages_from, pages_text, status_after, status_at, exit_status}
+use Rattle.standby_cli.specs.Outcome.{AppendsLines, IsLines, IsAnswerStatus, WroteSome}
 use Rattle.standby_cli.proofs.Appending.{appends_both, appends_lines, lines_both, no_lines, wrote_after, wrote_of_longer}
 
 -- the pages from this block on
@@ -177,33 +177,33 @@ wrote_front before now page table blocks block w =
     (appends_lines before now now w.text rest w.lines w.appends (no_lines now rest))
 
 -- the status of an answer is no fault's
-replied_at : (end : BlockEnd) → IsReplied (status_at end)
+replied_at : (end : BlockEnd) → IsAnswerStatus (status_at end)
 replied_at Whole = inl refl
 replied_at (ToastedAt line column) = inr (inl refl)
 replied_at (BadAt line column) = inr (inl refl)
 replied_at (UnknownAt line id) = inr (inr (inr refl))
 replied_at NoPage = inr (inr (inr refl))
 
-replied_after : (pages : List BlockRows) → IsReplied (status_after pages)
+replied_after : (pages : List BlockRows) → IsAnswerStatus (status_after pages)
 replied_after [] = inl refl
 replied_after (page ∷ []) = replied_at page.end
 replied_after (page ∷ next ∷ pages) = replied_after (next ∷ pages)
 
-pub replied : (reply : Reply) → IsReplied (status_of reply)
+pub replied : (reply : Answer) → IsAnswerStatus (exit_status reply)
 replied BadWords = inr (inr (inl refl))
 replied (LogRefused at what) = inr (inr (inr refl))
 replied NoTable = inr (inl refl)
 replied (NotAdmitted min at awaited state) = inr (inl refl)
 replied (Scanned at table blocks pages) = replied_after pages
 
-pub no_fault : (status n : ℕ) → IsReplied status → status ≡ n → 5 < n → ⊥
+pub no_fault : (status n : ℕ) → IsAnswerStatus status → status ≡ n → 5 < n → ⊥
 no_fault status n (inl e) f less = omega arith
 no_fault status n (inr (inl e)) f less = omega arith
 no_fault status n (inr (inr (inl e))) f less = omega arith
 no_fault status n (inr (inr (inr e))) f less = omega arith
 
 -- a table without blocks
-pub status_of_none : (at table blocks : ℕ) (page : ℕ → BlockRows) → blocks ≡ 0 → status_of (Scanned at table blocks (pages_from page 0 blocks)) ≡ 0
+pub status_of_none : (at table blocks : ℕ) (page : ℕ → BlockRows) → blocks ≡ 0 → exit_status (Scanned at table blocks (pages_from page 0 blocks)) ≡ 0
 unfolding pages_from
 status_of_none at table blocks page e = ap (λ (n : ℕ). status_after (pages_from page 0 n)) e
 
@@ -220,7 +220,7 @@ two_after [] e = omega (arith, e)
 two_after (page ∷ []) e = two_at page.end e
 two_after (page ∷ next ∷ pages) e = two_after (next ∷ pages) e
 
-pub two_is : (reply : Reply) → status_of reply ≡ 2 → reply ≡ BadWords
+pub two_is : (reply : Answer) → exit_status reply ≡ 2 → reply ≡ BadWords
 two_is BadWords e = refl
 two_is (LogRefused at what) e = absurd (omega (arith, e))
 two_is NoTable e = absurd (omega (arith, e))

@@ -9,7 +9,8 @@ use Rattle.wal_reader.specs.declared.types.EndWhy.{EndWhy}
 use Rattle.wal_reader.specs.Kept.{AreTold}
 use Rattle.wal_reader.specs.Told.{Told, told_bytes}
 use Rattle.wal_archive.specs.ArchiveLog.{archived_byte, archived_bytes}
-use Rattle.heap_redo.specs.Redone.{View, absent, redone, seen, view_of}
+use Rattle.page_store.specs.Seen.{View, absent, seen, view_of}
+use Rattle.heap_redo.specs.Redone.{redone}
 use Rattle.heap_redo.specs.declared.fault.RedoFault.{RedoFault}
 use Rattle.page_store.specs.Content.{Blocks}
 use Rattle.standby_core.specs.declared.types.Refusal.{Refusal}
@@ -19,14 +20,15 @@ use Rattle.standby_core.specs.Standby.{Standby, at_origin, described_to, told_to
 use Rattle.standby_core.specs.declared.node.Node.{Node}
 use Rattle.standby_core.specs.View.{ReplaysTold, standby}
 use Rattle.standby_model.specs.Archived.{segment_size}
-use Rattle.standby_model.specs.Log.{Described, Stop, Ended, Refused, end_of, next_of, record_at}
+use Rattle.wal_bodies.specs.Ends.{end_of}
+use Rattle.standby_model.specs.Log.{Described, Stop, Ended, Refused, next_of, record_at}
 use Rattle.scan_model.specs.Run.{origin, redone_at, redone_on, replayed, start}
-use Rattle.scan_model.specs.Scan.{AnswersBlocks, AnswersLog, AnswersNext, AnswersOpening, AnswersTable, BadWords, LogRefused, Reply, is_admitted}
+use Rattle.scan_model.specs.Scan.{AnswersBlocks, AnswersLog, AnswersNext, AnswersOpening, AnswersTable, BadWords, LogRefused, Answer, is_admitted}
 use Rattle.scan_model.specs.Tables.{database, described, known, number_of}
 use Rattle.scan_model.proofs.Runs.{IsSetUp, redone_is, refused_is, set_up}
-use Rattle.standby_cli.specs.declared.replay.Replay.{Replay}
-use Rattle.standby_cli.specs.declared.replay.Replay.TheVariants as replay
-use Rattle.standby_cli.specs.Replays.{AnswersReplay, HasReplayed, IsReplayed, StandsIn, bare, told}
+use Rattle.standby_cli.specs.declared.replay.LogEnd.{LogEnd}
+use Rattle.standby_cli.specs.declared.replay.LogEnd.TheVariants as replay
+use Rattle.standby_cli.specs.Replays.{AnswersLogEnd, HasReplayed, IsLogEnd, StandsIn, bare, told}
 
 -- the log as the node is told it
 told_is : (byte : ℕ → Option ℕ) (node : Standby) → node.system ≡ 7 → node.segsize ≡ segment_size → told_to node byte ≡ told byte
@@ -101,12 +103,12 @@ log_ended byte old new lsn why (kept, (log, has)) replays stays =
 
 -- a record was refused
 refused_next :
-    (name : List ℕ) (node : Standby) (found given : Result Rec Stop) (reply : Reply) → found ≡ given → AnswersNext name node given reply
+    (name : List ℕ) (node : Standby) (found given : Result Rec Stop) (reply : Answer) → found ≡ given → AnswersNext name node given reply
     → AnswersNext name node found reply
 refused_next name node found given reply e h = subst (λ (f : Result Rec Stop). AnswersNext name node f reply) (sym e) h
 
 refused_block :
-    (node : Standby) (outcome : Result Standby RedoFault) (fault : RedoFault) (what : Refusal) (reply : Reply) → outcome ≡ Err fault
+    (node : Standby) (outcome : Result Standby RedoFault) (fault : RedoFault) (what : Refusal) (reply : Answer) → outcome ≡ Err fault
     → redo_refusal fault ≡ Some what → reply ≡ LogRefused node.at.0 what → AnswersBlocks node outcome reply
 refused_block node outcome fault what reply e f g =
     subst (λ (o : Result Standby RedoFault). AnswersBlocks node o reply) (sym e) (what, f, g)
@@ -175,7 +177,7 @@ pub ended_in :
     (given bytes : Option (ℕ → Option ℕ)) (old new : Node) (lsn : Lsn) (why : EndWhy) → given ≡ bytes → StandsIn bytes (standby old)
     → ReplaysTold given (Ok (AtEnd lsn why)) (standby old) (standby new)
     → StaysUnlessApplied (Ok (AtEnd lsn why)) (standby old) (standby new)
-    → IsReplayed bytes (replay.Ended new why)
+    → IsLogEnd bytes (replay.Ended new why)
 ended_in given None old new lsn why e stands replays stays = tt
 ended_in given (Some byte) old new lsn why e stands replays stays =
     log_ended byte (standby old) (standby new) lsn why stands
@@ -183,7 +185,7 @@ ended_in given (Some byte) old new lsn why e stands replays stays =
 
 pub refused_in :
     (given bytes : Option (ℕ → Option ℕ)) (old new : Standby) (lsn : Lsn) (what : Refusal) → given ≡ bytes → StandsIn bytes old
-    → ReplaysTold given (Ok (IsRefused_ lsn what)) old new → IsReplayed bytes (replay.Refused lsn what)
+    → ReplaysTold given (Ok (IsRefused_ lsn what)) old new → IsLogEnd bytes (replay.Refused lsn what)
 refused_in given None old new lsn what e stands replays = tt
 refused_in given (Some byte) old new lsn what e stands replays =
     log_refused byte old new lsn what stands
@@ -191,8 +193,8 @@ refused_in given (Some byte) old new lsn what e stands replays =
 
 -- what replay left decides the answer
 pub answers_log :
-    (name : List ℕ) (files : Option (List ℕ → Option (List ℕ))) (left : Replay) (reply : Reply)
-    → IsReplayed (archived_bytes files segment_size) left → AnswersReplay name left reply
+    (name : List ℕ) (files : Option (List ℕ → Option (List ℕ))) (left : LogEnd) (reply : Answer)
+    → IsLogEnd (archived_bytes files segment_size) left → AnswersLogEnd name left reply
     → IfSome files (λ fs. AnswersLog name fs reply)
 answers_log name None left reply is says = tt
 answers_log name (Some fs) (replay.Ended node why) reply (log, has, next) says = record {
@@ -208,20 +210,20 @@ answers_log name (Some fs) (replay.Refused at what) reply (log, node, has, next)
   stands = has.stands;
   node = node;
   is_replayed = has.is_replayed;
-  says = subst (λ (r : Reply). AnswersNext name node (next_of (told (archived_byte fs segment_size)) described origin.redo.0 log) r)
+  says = subst (λ (r : Answer). AnswersNext name node (next_of (told (archived_byte fs segment_size)) described origin.redo.0 log) r)
       (sym says) (next name);
 }
 
 -- and it is none to words that are not understood
 opening_understood :
-    (node : Standby) (table : ℕ) (admitted : Bool) (reply : Reply) → AnswersOpening node table admitted reply → reply ≡ BadWords → ⊥
+    (node : Standby) (table : ℕ) (admitted : Bool) (reply : Answer) → AnswersOpening node table admitted reply → reply ≡ BadWords → ⊥
 opening_understood node table true reply says e = let s = says.says in cc
 opening_understood node table false reply says e = cc
 
-table_understood : (node : Standby) (number : Option ℕ) (reply : Reply) → AnswersTable node number reply → reply ≡ BadWords → ⊥
+table_understood : (node : Standby) (number : Option ℕ) (reply : Answer) → AnswersTable node number reply → reply ≡ BadWords → ⊥
 table_understood node None reply says e = cc
 table_understood node (Some table) reply says e = opening_understood node table (is_admitted node) reply says e
 
-pub understood : (name : List ℕ) (left : Replay) (reply : Reply) → AnswersReplay name left reply → reply ≡ BadWords → ⊥
+pub understood : (name : List ℕ) (left : LogEnd) (reply : Answer) → AnswersLogEnd name left reply → reply ≡ BadWords → ⊥
 understood name (replay.Ended node why) reply says e = table_understood (bare (standby node)) (number_of name) reply says e
 understood name (replay.Refused at what) reply says e = cc

@@ -1,6 +1,6 @@
 -- What the program's answers mean in the model.
 use Rattle.std.specs.Prelude.{ℕ, Bool, List, Result}
-use Rattle.heap_redo.specs.Redone.{seen}
+use Rattle.page_store.specs.Seen.{seen}
 use Rattle.page_store.specs.Content.{Blocks, content}
 use Rattle.heap_tuple.specs.declared.cell.Column.{Column}
 use Rattle.pg_types.specs.declared.status.Status.{Status}
@@ -15,22 +15,19 @@ use Rattle.scan_model.specs.Tables.{table_with}
 use Rattle.standby_cli.specs.declared.reply.Reply.{Reply}
 use Rattle.standby_cli.specs.declared.reply.Reply.TheVariants as reply
 use Rattle.standby_cli.specs.declared.reply.Scan.{Scan}
-
--- whether a snapshot sees a tuple, beside these statuses
-abbrev pub seen_by : SnapshotData → (ℕ → Status) → List ℕ → Result Bool Unknown
-seen_by snapshot statuses tuple = visible_of tuple snapshot no_parents statuses no_multixacts
+use Rattle.seq_scan.specs.Meaning.{seen_by}
 
 -- the rows of a block of a table in a pool
 abbrev pub page_in : List Column → SnapshotData → (ℕ → Status) → Blocks → ℕ → ℕ → BlockRows
-page_in columns snapshot statuses blocks table block = block_rows columns (seen_by snapshot statuses) (seen (blocks table block))
+page_in columns snapshot statuses blocks table block = block_rows columns (seen_by snapshot statuses no_multixacts) (seen (blocks table block))
 
 -- what a scan that was opened gives
-abbrev pub scan_meaning : Scan → scan.Reply
+abbrev pub scan_meaning : Scan → scan.Answer
 scan_meaning s =
     scan.Scanned s.at.0 s.table s.blocks
     (scan.pages_from (page_in (table_with s.table).columns (in_numbers s.snapshot) (status_of s.state.log) (content s.pool) s.table) 0 s.blocks)
 
-abbrev pub reply_meaning : Reply → scan.Reply
+abbrev pub reply_meaning : Reply → scan.Answer
 reply_meaning reply.BadWords = scan.BadWords
 reply_meaning (reply.LogRefused at what) = scan.LogRefused at.0 what
 reply_meaning reply.NoTable = scan.NoTable

@@ -16,8 +16,8 @@ abbrev pub memory_status : ℕ
 memory_status = 12
 
 -- the status is that of an answer
-abbrev pub IsReplied : ℕ → Type 0
-IsReplied status = (status ≡ 0) ⊎ ((status ≡ 1) ⊎ ((status ≡ 2) ⊎ (status ≡ 5)))
+abbrev pub IsAnswerStatus : ℕ → Type 0
+IsAnswerStatus status = (status ≡ 0) ⊎ ((status ≡ 1) ⊎ ((status ≡ 2) ⊎ (status ≡ 5)))
 
 -- the status is that of a fault
 abbrev pub IsFault : ℕ → Type 0

@@ -8,10 +8,10 @@ use Rattle.standby_core.specs.View.{standby}
 use Rattle.standby_model.specs.Archived.{segment_size}
 use Rattle.standby_model.specs.Log.{Stands, Ended, next_of}
 use Rattle.scan_model.specs.Run.{origin, replayed}
-use Rattle.scan_model.specs.Scan.{AnswersNext, AnswersTable, LogRefused, Reply}
+use Rattle.scan_model.specs.Scan.{AnswersNext, AnswersTable, LogRefused, Answer}
 use Rattle.scan_model.specs.Tables.{described, known, number_of}
-use Rattle.standby_cli.specs.declared.replay.Replay.{Replay}
-use Rattle.standby_cli.specs.declared.replay.Replay.TheVariants as replay
+use Rattle.standby_cli.specs.declared.replay.LogEnd.{LogEnd}
+use Rattle.standby_cli.specs.declared.replay.LogEnd.TheVariants as replay
 
 -- the log of timeline 1 of system 7 with these bytes
 abbrev pub told : (ℕ → Option ℕ) → Told
@@ -31,23 +31,23 @@ abbrev pub StandsIn : Option (ℕ → Option ℕ) → Standby → Type 0
 StandsIn bytes node = IfSome bytes (λ byte. AreTold byte node.kept × ((log : List Rec) × HasReplayed byte log (bare node)))
 
 -- the log was replayed to its end, or to a record that is refused
-abbrev pub IsReplayedOf : (ℕ → Option ℕ) → Replay → Type 0
-IsReplayedOf byte (replay.Ended node why) =
+abbrev pub IsLogEndOf : (ℕ → Option ℕ) → LogEnd → Type 0
+IsLogEndOf byte (replay.Ended node why) =
     (log : List Rec) × HasReplayed byte log (bare (standby node))
     × (next_of (told byte) described origin.redo.0 log ≡ Err (Ended why))
-IsReplayedOf byte (replay.Refused at what) =
+IsLogEndOf byte (replay.Refused at what) =
     (log : List Rec) × (node : Standby) × HasReplayed byte log node
     × ((name : List ℕ) → AnswersNext name node (next_of (told byte) described origin.redo.0 log) (LogRefused at.0 what))
 
-abbrev pub IsReplayed : Option (ℕ → Option ℕ) → Replay → Type 0
-IsReplayed bytes replayed = IfSome bytes (λ byte. IsReplayedOf byte replayed)
+abbrev pub IsLogEnd : Option (ℕ → Option ℕ) → LogEnd → Type 0
+IsLogEnd bytes replayed = IfSome bytes (λ byte. IsLogEndOf byte replayed)
 
 -- the node has the described tables
-abbrev pub HasTables : Replay → Type 0
+abbrev pub HasTables : LogEnd → Type 0
 HasTables (replay.Ended node why) = (standby node).known ≡ known
 HasTables (replay.Refused at what) = Unit {0}
 
 -- the answer where replay left this
-abbrev pub AnswersReplay : List ℕ → Replay → Reply → Type 0
-AnswersReplay name (replay.Ended node why) reply = AnswersTable (bare (standby node)) (number_of name) reply
-AnswersReplay name (replay.Refused at what) reply = reply ≡ LogRefused at.0 what
+abbrev pub AnswersLogEnd : List ℕ → LogEnd → Answer → Type 0
+AnswersLogEnd name (replay.Ended node why) reply = AnswersTable (bare (standby node)) (number_of name) reply
+AnswersLogEnd name (replay.Refused at what) reply = reply ≡ LogRefused at.0 what

@@ -4,9 +4,9 @@ ghost use Rattle.wal_archive.specs.ArchiveLog.{archived_bytes};
 ghost use Rattle.standby_model.specs.Archived.{segment_size};
 ghost use Rattle.scan_model.specs.Scan.{Answers, AnswersLog, BadWords, table_of};
 ghost use Rattle.standby_cli.specs.Meaning.{reply_meaning};
-ghost use Rattle.standby_cli.specs.Replays.{AnswersReplay, HasTables, IsReplayed};
+ghost use Rattle.standby_cli.specs.Replays.{AnswersLogEnd, HasTables, IsLogEnd};
 
-use crate::replay::{Replay, replay_log};
+use crate::replay::{LogEnd, replay_log};
 use crate::reply::Reply;
 use crate::scan::open_scan;
 use crate::tables::number_of;
@@ -66,13 +66,13 @@ fn answer_scan<A: Archive>(alloc: Global, name: &str, archive: &mut A) -> Result
 }
 
 /// The answer where replay left this.
-fn answer_replay(alloc: Global, name: &str, replayed: Replay) -> Result<Reply, NoMemory>
+fn answer_replay(alloc: Global, name: &str, replayed: LogEnd) -> Result<Reply, NoMemory>
     requires { HasTables replayed }
-    ensures { IfOk result (λ reply. AnswersReplay name.now replayed (reply_meaning reply)) }
+    ensures { IfOk result (λ reply. AnswersLogEnd name.now replayed (reply_meaning reply)) }
 {
     match replayed {
-        Replay::Refused { at, what } => Ok(Reply::LogRefused { at, what }),
-        Replay::Ended { node, .. } => match number_of(name) {
+        LogEnd::Refused { at, what } => Ok(Reply::LogRefused { at, what }),
+        LogEnd::Ended { node, .. } => match number_of(name) {
             None => Ok(Reply::NoTable),
             Some(table) => open_scan(alloc, node, table),
         },

@@ -4,7 +4,7 @@ ghost use Rattle.wal_archive.specs.ArchiveLog.{archived_bytes};
 ghost use Rattle.standby_core.specs.View.{standby};
 ghost use Rattle.standby_model.specs.Archived.{segment_size};
 ghost use Rattle.scan_model.specs.Run.{start};
-ghost use Rattle.standby_cli.specs.Replays.{HasTables, IsReplayed};
+ghost use Rattle.standby_cli.specs.Replays.{HasTables, IsLogEnd};
 
 use crate::tables::{DATABASE, known_files};
 use outside::Archive;
@@ -24,7 +24,7 @@ const ORIGIN: Origin = Origin {
 
 /// What replay of a log leaves.
 #[derive(Drop)]
-pub enum Replay {
+pub enum LogEnd {
     /// The log ends here, by this rule.
     Ended { node: Node, why: EndWhy },
     /// The record at this position is refused.
@@ -44,8 +44,8 @@ fn start(alloc: Global) -> Result<Node, NoMemory>
 ///
 /// # Errors
 /// `Failed` only where the archive's faults rose, `Memory` for want of memory.
-pub fn replay_log<A: Archive>(alloc: Global, archive: &mut A) -> Result<Replay, Fail>
-    ensures replayed { IfOk result (IsReplayed (archived_bytes (A.files archive.old) segment_size)) }
+pub fn replay_log<A: Archive>(alloc: Global, archive: &mut A) -> Result<LogEnd, Fail>
+    ensures replayed { IfOk result (IsLogEnd (archived_bytes (A.files archive.old) segment_size)) }
     ensures tables { IfOk result HasTables }
     ensures failed { result ≡ Err Fail.Failed → Rose (A.fault_count archive.old) (A.fault_count archive.new) }
     ensures uncounted { result ≢ Err Fail.Failed → A.fault_count archive.new ≡ A.fault_count archive.old }
@@ -59,8 +59,8 @@ pub fn replay_log<A: Archive>(alloc: Global, archive: &mut A) -> Result<Replay, 
             Err(NodeFault::Archive) => return Err(Fail::Failed),
             Err(NodeFault::Memory) => return Err(Fail::Memory),
             Ok(Replayed::Applied { .. }) => {}
-            Ok(Replayed::AtEnd { why, .. }) => return Ok(Replay::Ended { node, why }),
-            Ok(Replayed::Refused { lsn, what }) => return Ok(Replay::Refused { at: lsn, what }),
+            Ok(Replayed::AtEnd { why, .. }) => return Ok(LogEnd::Ended { node, why }),
+            Ok(Replayed::Refused { lsn, what }) => return Ok(LogEnd::Refused { at: lsn, what }),
         }
     }
 }

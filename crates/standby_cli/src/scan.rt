@@ -1,6 +1,6 @@
 ghost use Rattle.std.specs.Prelude.{◌≡◌, ◌<◌, IfOk, Some};
 ghost use Rattle.standby_core.specs.Standby.{Standby};
-ghost use Rattle.standby_core.specs.View.{standby, status_of};
+ghost use Rattle.standby_core.specs.View.{standby, node_status};
 ghost use Rattle.scan_model.specs.Scan.{AnswersTable, is_admitted};
 ghost use Rattle.scan_model.specs.Tables.{known};
 ghost use Rattle.standby_cli.specs.Meaning.{reply_meaning};
@@ -15,9 +15,9 @@ use std::alloc::Global;
 
 /// Whether a standby that stands so admits scans: its blocks are consistent, and the running transactions
 /// are known.
-#[tactic(auto, unfolding(standby_core::specs::View::status_of))]
+#[tactic(auto, unfolding(standby_core::specs::View::node_status))]
 fn admits(status: &NodeStatus) -> bool
-    ensures { (node : Standby) → status.now ≡ status_of node → result ≡ is_admitted node }
+    ensures { (node : Standby) → status.now ≡ node_status node → result ≡ is_admitted node }
 {
     status.min.0 <= status.at.0 && !status.awaited && matches!(status.state, State::Ready)
 }

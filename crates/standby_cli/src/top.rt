@@ -2,9 +2,9 @@ ghost use Rattle.std.specs.Prelude.{◌≡◌, ◌≢◌, ◌≤◌, ◌⊎◌, 
 ghost use Rattle.outside.specs.Faults.{Rose};
 ghost use Rattle.outside.specs.Sink.{Appends, AppendsPrefix};
 ghost use Rattle.legal_scan.specs.Answer.{WhereLegal};
-ghost use Rattle.scan_model.specs.Scan.{Reply as Said, Answers, status_of, table_of, text_of, line};
+ghost use Rattle.scan_model.specs.Scan.{Answer as Said, Answers, exit_status, table_of, text_of, line};
 ghost use Rattle.standby_cli.specs.Meaning.{reply_meaning};
-ghost use Rattle.standby_cli.specs.Outcome.{IsReplied, IsFault, IsFront, AppendsUnless, CutsOff};
+ghost use Rattle.standby_cli.specs.Outcome.{IsAnswerStatus, IsFault, IsFront, AppendsUnless, CutsOff};
 ghost use Rattle.standby_cli.specs.Front.{IsFrontOfAnswer};
 
 use crate::answer::answer;
@@ -27,17 +27,17 @@ pub fn standby_main<A: Archive, O: Sink>(
     archive: &mut A,
     out: &mut O,
 ) -> u8
-    ensures statuses { IsReplied result ⊎ IsFault result }
+    ensures statuses { IsAnswerStatus result ⊎ IsFault result }
 
     // The status and the text are those of the answer, where the archive tells its files.
-    ensures replied { IsReplied result → IfSome (A.files archive.old) (λ files. (reply : Said)
-        × (Answers (map string_bytes words.now) files reply) × (result ≡ status_of reply)
+    ensures replied { IsAnswerStatus result → IfSome (A.files archive.old) (λ files. (reply : Said)
+        × (Answers (map string_bytes words.now) files reply) × (result ≡ exit_status reply)
         × (Appends (O.written out.old) (O.written out.new) (text_of reply))) }
 
     // Over a log that a primary could write scans are admitted exactly where the base backup has ended and the running
     // transactions are known, and what is written are the rows that were committed at the log's end, in order of place.
-    ensures rows { IsReplied result → IfSome (A.files archive.old) (λ files.
-        WhereLegal (map string_bytes words.now) files (λ reply. (result ≡ status_of reply)
+    ensures rows { IsAnswerStatus result → IfSome (A.files archive.old) (λ files.
+        WhereLegal (map string_bytes words.now) files (λ reply. (result ≡ exit_status reply)
         × (Appends (O.written out.old) (O.written out.new) (text_of reply)))) }
 
     // A fault has its cause, and no fetch that failed is passed over. Where the sink failed a prefix of the answer's text is written; else whole lines of it, and then
@@ -70,9 +70,9 @@ pub fn standby_main<A: Archive, O: Sink>(
 
 /// Writes an answer, and gives its status.
 fn finish<O: Sink>(alloc: Global, reply: Reply, out: &mut O) -> u8
-    ensures replied { IsReplied result
-        → (result ≡ status_of (reply_meaning reply)) × (Appends (O.written out.old) (O.written out.new) (text_of (reply_meaning reply))) }
-    ensures statuses { IsReplied result ⊎ ((result ≡ 9) ⊎ (result ≡ 12)) }
+    ensures replied { IsAnswerStatus result
+        → (result ≡ exit_status (reply_meaning reply)) × (Appends (O.written out.old) (O.written out.new) (text_of (reply_meaning reply))) }
+    ensures statuses { IsAnswerStatus result ⊎ ((result ≡ 9) ⊎ (result ≡ 12)) }
     ensures sink_failed { result ≡ 9 → Rose (O.fault_count out.old) (O.fault_count out.new) }
     ensures sink_text { result ≡ 9 → AppendsPrefix (O.written out.old) (O.written out.new) (text_of (reply_meaning reply)) }
     ensures memory_line { result ≡ 12

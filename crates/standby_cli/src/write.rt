@@ -3,7 +3,7 @@ ghost use Rattle.commit_log.specs.Log.{status_of as transaction_status};
 ghost use Rattle.page_store.specs.Content.{content, table_count};
 ghost use Rattle.pg_types.specs.Names.{lsn_text};
 ghost use Rattle.standby_snapshot.specs.Snapshot.{in_numbers};
-ghost use Rattle.scan_model.specs.Scan.{LogRefused, NotAdmitted, is_whole, line, page_text, pages_from, pages_text, scan_text, status_after, status_at, status_of, text_of};
+ghost use Rattle.scan_model.specs.Scan.{LogRefused, NotAdmitted, is_whole, line, page_text, pages_from, pages_text, scan_text, status_after, status_at, exit_status, text_of};
 ghost use Rattle.scan_model.specs.Tables.{table_with};
 ghost use Rattle.standby_cli.specs.Meaning.{page_in, reply_meaning, scan_meaning};
 ghost use Rattle.standby_cli.specs.Outcome.{WritesSome};
@@ -26,7 +26,7 @@ use xact_redo::XactState;
 #[tactic(auto, unfolding(scan_model::specs::Scan::text_of))]
 pub fn write_reply<O: Sink>(alloc: Global, reply: Reply, out: &mut O) -> Result<u8, Fail>
     ensures told { WritesSome (O.written out.old) (O.written out.new) (text_of (reply_meaning reply)) result }
-    ensures status { IfOk result (λ status. status ≡ status_of (reply_meaning reply)) }
+    ensures status { IfOk result (λ status. status ≡ exit_status (reply_meaning reply)) }
     ensures cause { HasCause (O.fault_count out.old) (O.fault_count out.new) result }
     ensures shortages { O.short_count out.old ≤ O.short_count out.new }
 {
@@ -68,7 +68,7 @@ fn write_text<O: Sink>(text: Result<Vec<u8>, NoMemory>, status: u8, out: &mut O)
 /// Writes a scan's line, and then its rows block for block.
 fn write_scan<O: Sink>(alloc: Global, scan: Scan, out: &mut O) -> Result<u8, Fail>
     ensures told { WritesSome (O.written out.old) (O.written out.new) (text_of (scan_meaning scan)) result }
-    ensures status { IfOk result (λ status. status ≡ status_of (scan_meaning scan)) }
+    ensures status { IfOk result (λ status. status ≡ exit_status (scan_meaning scan)) }
     ensures cause { HasCause (O.fault_count out.old) (O.fault_count out.new) result }
     ensures shortages { O.short_count out.old ≤ O.short_count out.new }
 {
@@ -82,7 +82,7 @@ fn write_scan<O: Sink>(alloc: Global, scan: Scan, out: &mut O) -> Result<u8, Fai
 fn write_pages<O: Sink>(alloc: Global, scan: Scan, out: &mut O) -> Result<u8, Fail>
     ensures told { let pages = pages_from (page_in (table_with scan.table).columns (in_numbers scan.snapshot) (transaction_status scan.state.log) (content scan.pool) scan.table) 0 scan.blocks in
         WritesSome (O.written out.old) (O.written out.new) (scan_text scan.table scan.blocks pages) result }
-    ensures status { IfOk result (λ status. status ≡ status_of (scan_meaning scan)) }
+    ensures status { IfOk result (λ status. status ≡ exit_status (scan_meaning scan)) }
     ensures cause { HasCause (O.fault_count out.old) (O.fault_count out.new) result }
     ensures shortages { O.short_count out.old ≤ O.short_count out.new }
 {

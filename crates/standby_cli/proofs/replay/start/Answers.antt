@@ -3,7 +3,7 @@ use Rattle.std.proofs.lemmas.Result.{IfOk-weaker}
 use Rattle.pg_types.specs.SegmentSizes.{sixteen_mebibytes}
 use Rattle.pg_types.specs.declared.names.Locator.{Locator}
 use Rattle.page_store.specs.Content.{content}
-use Rattle.heap_redo.specs.Redone.{View, view_of}
+use Rattle.page_store.specs.Seen.{View, view_of}
 use Rattle.standby_core.specs.Standby.{at_origin}
 use Rattle.scan_model.specs.Run.{origin}
 use Rattle.scan_model.specs.Tables.{database, known}

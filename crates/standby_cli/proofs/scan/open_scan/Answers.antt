@@ -2,7 +2,7 @@ use Rattle.std.proofs.Common.{◌≡◌, Bool, true, sym, ap, subst, ◌∙◌}
 use Rattle.page_store.specs.Content.{content}
 use Rattle.xact_redo.specs.State.{TransactionState, transactions}
 use Rattle.standby_core.specs.declared.types.NodeStatus.{NodeStatus}
-use Rattle.standby_core.specs.View.{standby, status_of}
+use Rattle.standby_core.specs.View.{standby, node_status}
 use Rattle.scan_model.specs.Scan.{AnswersOpening, Scanned, pages_from}
 use Rattle.commit_log.specs.Log.{status_of as statuses_in}
 use Rattle.standby_snapshot.specs.Snapshot.{in_numbers}
@@ -24,7 +24,7 @@ take-requires c =
     ap (λ (t : TransactionState). t.known.mode) c.parts-pool.ensures.transactions ∙ known
 
 pub returns : goal.returns
-unfolding status_of
+unfolding node_status
 returns c =
     let node = standby c.args.node in
     let parts = c.parts-pool.result in

@@ -5,7 +5,7 @@ use Rattle.standby_cli.specs.Meaning.{reply_meaning}
 use Rattle.standby_cli.proofs.Faults.{cut_off_answer, cut_off_at_once}
 use Rattle.outside.specs.Sink.{Appends}
 use Rattle.standby_cli.proofs.Legal.{legal_replies}
-use Rattle.scan_model.specs.Scan.{line, status_of, text_of}
+use Rattle.scan_model.specs.Scan.{line, exit_status, text_of}
 use Rattle.standby_cli.proofs.Pages.{two_is}
 use Rattle.standby_cli.proofs.Words.{told_so, two_or}
 use Rattle.standby_cli.proofs.top.standby_main.Goals as goal
@@ -29,7 +29,7 @@ returns-in-Err-Memory-clause-memory_line g c = λ twelve.
 pub returns-in-Ok-clause-rows : goal.returns-in-Ok-clause-rows
 returns-in-Ok-clause-rows g c = λ replied.
     legal_replies c.legal_scan.ensures (map string_bytes c.args.words.now) (g.A.Archive.files c.args.archive.now)
-    (λ reply. (c.finish.result ≡ status_of reply) × Appends (g.O.Sink.written c.args.out.now) (g.O.Sink.written c.finish.new.out) (text_of reply))
+    (λ reply. (c.finish.result ≡ exit_status reply) × Appends (g.O.Sink.written c.args.out.now) (g.O.Sink.written c.finish.new.out) (text_of reply))
     (reply_meaning c.in-Ok.reply) (g.met.A.Archive.bytes c.args.archive.now) c.in-Ok.ensures.told (c.finish.ensures.replied replied)
 
 pub returns-in-Ok-clause-words : goal.returns-in-Ok-clause-words
