@@ -125,24 +125,24 @@ fn show_xacts(answer: &mut Answer, rec: &Rec<'_>) {
 
 /// Ids between commas, and none as `-`.
 fn show_xids(answer: &mut Answer, xids: Xids<'_>) {
-    let mut between = " xids ";
+    let mut is_first = true;
     for xid in xids {
-        answer.field(between, xid.0);
-        between = ",";
+        answer.field(if is_first { " xids " } else { "," }, xid.0);
+        is_first = false;
     }
-    if between == " xids " {
+    if is_first {
         answer.say(" xids -");
     }
 }
 
 /// Lines in the same way.
 fn show_lines(answer: &mut Answer, lines: Lines<'_>) {
-    let mut between = " lines ";
+    let mut is_first = true;
     for line in lines {
-        answer.field(between, u64::from(line));
-        between = ",";
+        answer.field(if is_first { " lines " } else { "," }, u64::from(line));
+        is_first = false;
     }
-    if between == " lines " {
+    if is_first {
         answer.say(" lines -");
     }
 }

@@ -19,11 +19,11 @@ pub fn show_cell(answer: &mut Answer, mark: &str, cell: &Cell) {
 
 /// A row as `(1, null)`: bytes as `\x0a`, as PostgreSQL does.
 pub fn show_row(answer: &mut Answer, row: &Row) {
-    let mut between = "(";
+    let mut is_first = true;
     for cell in row.as_slice() {
-        answer.say(between);
+        answer.say(if is_first { "(" } else { ", " });
         show_cell(answer, "\\x", cell);
-        between = ", ";
+        is_first = false;
     }
     answer.say(if row.is_empty() { "()" } else { ")" });
 }
