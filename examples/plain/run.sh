@@ -12,6 +12,7 @@ crate="$top/crates/standby"
 built="$crate/out/standby"
 stamp="$crate/out/standby.sources"
 segment="archive/000000010000000000000002"
+schema="base/schema.toml"
 
 # The sources of which a build is made, as one checksum.
 sources() {
@@ -51,4 +52,4 @@ if is_proved; then
 fi
 echo "This build is not proved; '$0 --proved' proves every crate below the program first." >&2
 cd "$crate"
-exec rt try --data "$segment=$here/$segment" -- scan t
+exec rt try --data "$segment=$here/$segment" --data "$schema=$here/$schema" -- scan t

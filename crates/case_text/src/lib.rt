@@ -3,12 +3,14 @@
 //! one that begins with `#` is a remark.
 #![tactic(auto)]
 
+pub mod answer;
 pub mod lines;
 pub mod show;
 pub mod values;
 pub mod wrong;
 
-pub use lines::{input, words};
+pub use answer::Answer;
+pub use lines::{input, parts, words};
 pub use show::{ShowHex, ShowPosition};
 pub use values::{
     bytes, locator, number_u8, number_u16, number_u32, number_u64, place, position, yes,

@@ -18,3 +18,15 @@ pub fn words(alloc: Global, line: &str) -> Result<Vec<&str>, Wrong>
     let words: Vec<&str> = line.split_whitespace().collect(alloc)?;
     Ok(words)
 }
+
+/// What a line asks, and the bytes in hex behind its notation, where it has one (`ASKED | NOTATION | HEX`); else
+/// `-`, which is none.
+pub fn parts(line: &str) -> (&str, &str) {
+    match line.split_once(" | ") {
+        Some((asked, rest)) => match rest.split_once(" | ") {
+            Some((_, hex)) => (asked, hex),
+            None => (asked, "-"),
+        },
+        None => (line, "-"),
+    }
+}

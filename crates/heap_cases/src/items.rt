@@ -1,11 +1,10 @@
 ghost use Rattle.std.specs.Prelude.{◌≡◌, ◌≤◌, length};
 
 use byteorder::{ByteOrder, LittleEndian};
-use case_text::{ShowHex, ShowPosition, Wrong, bytes, number_u8, number_u16, number_u32, place};
+use case_text::{Answer, Wrong, bytes, number_u8, number_u16, number_u32, place};
 use heap_page::{HeapPage, Item};
 use heap_tuple::TupleView;
 use std::alloc::Global;
-use std::fmt;
 
 /// A tuple's first 23 bytes, by xmin, xmax, command id, ctid, infomask2, infomask and hoff
 /// (`HeapTupleHeaderData`, htup_details.h).
@@ -55,66 +54,46 @@ pub fn tuple(alloc: Global, fields: &[&str]) -> Result<Vec<u8>, Wrong> {
     Ok(out)
 }
 
-/// Shows a tuple as it is written.
-#[derive(Drop)]
-pub struct ShowTuple<'a>(pub &'a [u8]);
-
-impl<'a> fmt::Display for ShowTuple<'a> {
-    fn fmt<W: fmt::Write>(&self, f: &mut fmt::Formatter<W>) -> fmt::Result {
-        match TupleView::read(self.0) {
-            Some(tuple) => show_tuple(&tuple, f),
-            None => write!(f, "no tuple"),
-        }
-    }
-}
-
-fn show_tuple<W: fmt::Write>(tuple: &TupleView<'_>, f: &mut fmt::Formatter<W>) -> fmt::Result {
-    let xmin = tuple.xmin().0;
-    let xmax = tuple.xmax();
-    let cid = tuple.cid();
-    let block = tuple.ctid().block;
-    let line = tuple.ctid().line;
-    write!(f, "{xmin} {xmax} {cid} {block},{line} ")?;
-    let mask2 = tuple.infomask2();
-    let mask = tuple.infomask();
-    let hoff = tuple.hoff();
+/// A tuple as it is written.
+fn show_tuple(answer: &mut Answer, bytes: &[u8]) {
+    let Some(tuple) = TupleView::read(bytes) else {
+        answer.say("no tuple");
+        return;
+    };
+    answer.number(tuple.xmin().0);
+    answer.field(" ", u64::from(tuple.xmax()));
+    answer.field(" ", u64::from(tuple.cid()));
+    answer.place(" ", tuple.ctid());
+    answer.mask(" ", &tuple.infomask2().to_be_bytes());
+    answer.mask(" ", &tuple.infomask().to_be_bytes());
+    answer.field(" ", u64::from(tuple.hoff()));
+    answer.say(" ");
     let bytes = tuple.bytes();
-    let rest = ShowHex(&bytes[23..]);
-    write!(f, "0x{mask2:04x} 0x{mask:04x} {hoff} {rest}")
+    answer.bytes(&bytes[23..]);
 }
 
-/// Shows what stands at a line of a page.
-#[derive(Drop)]
-pub struct ShowItem<'a>(pub Item<'a>);
-
-impl<'a> fmt::Display for ShowItem<'a> {
-    fn fmt<W: fmt::Write>(&self, f: &mut fmt::Formatter<W>) -> fmt::Result {
-        match self.0 {
-            Item::Unused => write!(f, "unused"),
-            Item::Normal(bytes) => {
-                let tuple = ShowTuple(bytes);
-                write!(f, "{tuple}")
-            }
-            Item::Redirect(to) => write!(f, "redirect {to}"),
-            Item::Dead => write!(f, "dead"),
-        }
+/// What stands at a line of a page.
+pub fn show_item(answer: &mut Answer, item: Item<'_>) {
+    match item {
+        Item::Unused => answer.say("unused"),
+        Item::Normal(bytes) => show_tuple(answer, bytes),
+        Item::Redirect(to) => answer.field("redirect ", u64::from(to)),
+        Item::Dead => answer.say("dead"),
     }
 }
 
-/// Shows a page: its position, and its lines up to the last that is in use.
-#[derive(Drop)]
-pub struct ShowPage<'a>(pub &'a HeapPage);
-
-impl<'a> fmt::Display for ShowPage<'a> {
-    fn fmt<W: fmt::Write>(&self, f: &mut fmt::Formatter<W>) -> fmt::Result {
-        let at = ShowPosition(self.0.lsn());
-        let count = self.0.lines();
-        write!(f, "at {at}, {count} lines")?;
-        for k in 0..count {
-            let line = k + 1;
-            let here = ShowItem(self.0.item(line));
-            write!(f, "\n    {line}: {here}")?;
-        }
-        Ok(())
+/// A page: its position, and its lines up to the last that is in use.
+pub fn page_text(alloc: Global, page: &HeapPage) -> Result<String, Wrong> {
+    let mut answer = Answer::new(alloc);
+    let count = page.lines();
+    answer.position("at ", page.lsn());
+    answer.field(", ", u64::from(count));
+    answer.say(" lines");
+    for k in 0..count {
+        let line = k + 1;
+        answer.field("\n    ", u64::from(line));
+        answer.say(": ");
+        show_item(&mut answer, page.item(line));
     }
+    answer.finish()
 }

@@ -3,20 +3,38 @@ use heap_tuple::{Cell, Column, Kind};
 use pg_types::Bytes;
 use std::alloc::Global;
 
-fn kind(word: &str) -> Result<Kind, Wrong> {
-    match word {
-        "bool" => Ok(Kind::Bool),
-        "int2" => Ok(Kind::Int2),
-        "int4" => Ok(Kind::Int4),
-        "int8" => Ok(Kind::Int8),
-        "oid" => Ok(Kind::Oid),
-        "uuid" => Ok(Kind::Uuid),
-        "text" => Ok(Kind::Text),
-        "bytea" => Ok(Kind::Bytea),
-        "raw4" => Ok(Kind::Raw4),
-        "raw8" => Ok(Kind::Raw8),
-        _ => Err(Wrong::Line),
+/// The types, each with its word.
+static KINDS: [(&str, Kind); 10] = [
+    ("bool", Kind::Bool),
+    ("int2", Kind::Int2),
+    ("int4", Kind::Int4),
+    ("int8", Kind::Int8),
+    ("oid", Kind::Oid),
+    ("uuid", Kind::Uuid),
+    ("text", Kind::Text),
+    ("bytea", Kind::Bytea),
+    ("raw4", Kind::Raw4),
+    ("raw8", Kind::Raw8),
+];
+
+/// The type that a word names.
+pub fn kind(word: &str) -> Result<Kind, Wrong> {
+    for (name, kind) in KINDS.iter() {
+        if *name == word {
+            return Ok(*kind);
+        }
     }
+    Err(Wrong::Line)
+}
+
+/// The word for a type.
+pub fn word(kind: Kind) -> &'static str {
+    for (name, other) in KINDS.iter() {
+        if *other == kind {
+            return *name;
+        }
+    }
+    "another type"
 }
 
 /// A value that older tuples have.

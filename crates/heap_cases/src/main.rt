@@ -1,5 +1,5 @@
 //! Cases of the layers of the heap: tuples and their values, pages, blocks, records in typed form, their
-//! redo, and the rows of a block. Each line is put to the layer that its first word names, and the answer is
+//! redo, the rows of a block, and descriptions of tables with their rows as they are printed. Each line is put to the layer that its first word names, and the answer is
 //! printed in words. What has to be printed, in the file stdout, was worked out by hand, or by a program
 //! that has nothing of this repository.
 #![tactic(auto)]
@@ -8,70 +8,69 @@ ghost use Rattle.std.specs.Prelude.{◌≡◌, IfOk};
 ghost use Rattle.page_store.specs.Content.{table_count};
 
 mod bodies;
+mod descriptions;
 mod items;
 mod kinds;
 mod pages;
 mod pools;
+mod printed;
 mod records;
 mod rows;
 mod scans;
+mod texts;
 mod tuples;
 
 use case_text::{BadLine, Wrong, input, words};
 use heap_page::Page;
 use page_store::Pool;
-use records::Draft;
 use std::alloc::Global;
+use table_schema::Tables;
 
-/// A page, the blocks of two tables and a record, which the lines of a case change and look at.
+/// A page, the blocks of two tables, and described tables, which the lines of a case change and look at.
 #[derive(Drop)]
 struct Bench {
     page: Page,
     pool: Pool,
-    draft: Draft,
+    tables: Option<Tables>,
 }
 
-/// A page of zeros, two tables without blocks, and a record without blocks.
+/// A page of zeros, two tables without blocks, and no tables described.
 fn empty_bench(alloc: Global) -> Result<Bench, Wrong>
     ensures { IfOk result (λ bench. table_count bench.pool ≡ 2) }
 {
     Ok(Bench {
         page: [0; 8192],
         pool: Pool::plain(alloc, 2)?,
-        draft: Draft::new(alloc),
+        tables: None,
     })
 }
 
-/// The answer to a line: one of a record in typed form has its notation and its bytes behind bars.
+/// The answer to a line: one of a record has its notation and its bytes behind bars.
 fn answer(alloc: Global, bench: &mut Bench, line: &str) -> Result<String, Wrong>
     requires { table_count bench.old.pool ≡ 2 }
     ensures { table_count bench.new.pool ≡ 2 }
 {
-    match line.split_once(" | ") {
-        Some((front, rest)) => bodies::answer(alloc, front, rest),
-        None => answer_words(alloc, bench, line),
+    if let Some((front, rest)) = line.split_once(" | ") {
+        return bodies::answer(alloc, &mut bench.pool, front, rest);
+    }
+    let (first, rest) = line.split_once(' ').ok_or(Wrong::Line)?;
+    match first {
+        "tuple" | "page" | "pool" | "scan" => answer_words(alloc, bench, first, rest),
+        _ => descriptions::answer(alloc, &mut bench.tables, first, rest),
     }
 }
 
 /// The answer to a line of words.
-fn answer_words(alloc: Global, bench: &mut Bench, line: &str) -> Result<String, Wrong>
+fn answer_words(alloc: Global, bench: &mut Bench, first: &str, rest: &str) -> Result<String, Wrong>
     requires { table_count bench.old.pool ≡ 2 }
     ensures { table_count bench.new.pool ≡ 2 }
 {
-    let words = words(alloc, line)?;
-    let Some((first, rest)) = words.as_slice().split_first() else {
-        return Err(Wrong::Line);
-    };
-    match *first {
-        "tuple" => tuples::answer(alloc, rest),
-        "page" => pages::answer(alloc, &mut bench.page, rest),
-        "pool" => pools::answer(alloc, &mut bench.pool, rest),
-        "record" => bench.draft.begin(alloc, rest),
-        "block" => bench.draft.add_block(alloc, rest),
-        "image" => bench.draft.add_image(alloc, rest),
-        "new" => bench.draft.add_tuple(alloc, rest),
-        "redo" => records::redo_draft(alloc, &mut bench.draft, &mut bench.pool),
-        "scan" => scans::answer(alloc, &mut bench.pool, rest),
+    let words = words(alloc, rest)?;
+    match first {
+        "tuple" => tuples::answer(alloc, words.as_slice()),
+        "page" => pages::answer(alloc, &mut bench.page, words.as_slice()),
+        "pool" => pools::answer(alloc, &mut bench.pool, words.as_slice()),
+        "scan" => scans::answer(alloc, &mut bench.pool, words.as_slice()),
         _ => Err(Wrong::Line),
     }
 }
@@ -102,7 +101,7 @@ fn main(rt: HostRuntime) -> anyhow::Result<()> {
             continue;
         }
         if line.ends_with(':') {
-            bench.draft = Draft::new(rt.alloc());
+            bench.tables = None;
             bench.page = [0; 8192];
             bench.pool = Pool::plain(rt.alloc(), 2)?;
             println!(rt; "{line}")?;

@@ -1,8 +1,8 @@
 ghost use Rattle.std.specs.Prelude.{◌≡◌};
 ghost use Rattle.heap_page.specs.Shown.{IsState};
 
-use crate::items::{ShowItem, ShowPage, header, parts};
-use case_text::{Wrong, bytes, number_u8, number_u16, position};
+use crate::items::{header, page_text, parts, show_item};
+use case_text::{Answer, Wrong, bytes, number_u8, number_u16, position};
 use heap_page::{HeapPage, LineState, Page, PageError, check, shows_page};
 use std::alloc::Global;
 use wal_record::ImageView;
@@ -10,7 +10,7 @@ use wal_record::ImageView;
 /// Answers a line about the block, which may be no page.
 pub fn answer(alloc: Global, block: &mut Page, words: &[&str]) -> Result<String, Wrong> {
     match *words {
-        ["show"] => page_text(alloc, block),
+        ["show"] => whole_text(alloc, block),
         ["item", line] => item_text(alloc, block, number_u16(line)?),
         _ => {
             let text = change(alloc, block, words)?;
@@ -19,24 +19,20 @@ pub fn answer(alloc: Global, block: &mut Page, words: &[&str]) -> Result<String,
     }
 }
 
-fn page_text(alloc: Global, block: &Page) -> Result<String, Wrong> {
+fn whole_text(alloc: Global, block: &Page) -> Result<String, Wrong> {
     match HeapPage::read(block) {
-        Some(page) => {
-            let text = ShowPage(&page);
-            Ok(format!(in alloc; "{text}")?)
-        }
+        Some(page) => page_text(alloc, &page),
         None => Ok(String::from_str(alloc, "no page")?),
     }
 }
 
 fn item_text(alloc: Global, block: &Page, line: u16) -> Result<String, Wrong> {
+    let mut answer = Answer::new(alloc);
     match HeapPage::read(block) {
-        Some(page) => {
-            let text = ShowItem(page.item(line));
-            Ok(format!(in alloc; "{text}")?)
-        }
-        None => Ok(String::from_str(alloc, "no page")?),
+        Some(page) => show_item(&mut answer, page.item(line)),
+        None => answer.say("no page"),
     }
+    answer.finish()
 }
 
 fn change(alloc: Global, block: &mut Page, words: &[&str]) -> Result<&'static str, Wrong> {
@@ -134,7 +130,16 @@ pub fn change_page(
         ["line", line, "unused"] => state(page, line, LineState::Unused),
         ["line", line, "dead"] => state(page, line, LineState::Dead),
         ["line", line, "redirect", to] => redirect(page, line, number_u16(to)?),
-        _ => change_tuple(alloc, page, words),
+        ["put", line, ref fields @ ..] => {
+            let line = number_u16(line)?;
+            let tuple = parts(alloc, fields)?;
+            Ok(shown(page.put(line, &tuple.head, tuple.rest.as_slice())))
+        }
+        ["head", line, ref fields @ ..] => {
+            let line = number_u16(line)?;
+            Ok(shown(page.set_head(line, &header(fields)?)))
+        }
+        _ => Err(Wrong::Line),
     }
 }
 
@@ -151,38 +156,4 @@ fn redirect(page: &mut HeapPage, line: &str, to: u16) -> Result<&'static str, Wr
         return Err(Wrong::Number);
     }
     state(page, line, LineState::Redirect(to))
-}
-
-/// A tuple, or the header of one, goes to a line.
-fn change_tuple(alloc: Global, page: &mut HeapPage, words: &[&str]) -> Result<&'static str, Wrong> {
-    match words.split_first() {
-        Some((first, rest)) => match *first {
-            "put" => put_fields(alloc, page, rest),
-            "head" => set_fields(page, rest),
-            _ => Err(Wrong::Line),
-        },
-        None => Err(Wrong::Line),
-    }
-}
-
-fn put_fields(alloc: Global, page: &mut HeapPage, words: &[&str]) -> Result<&'static str, Wrong> {
-    match words.split_first() {
-        Some((line, fields)) => {
-            let line = number_u16(*line)?;
-            let tuple = parts(alloc, fields)?;
-            Ok(shown(page.put(line, &tuple.head, tuple.rest.as_slice())))
-        }
-        None => Err(Wrong::Line),
-    }
-}
-
-fn set_fields(page: &mut HeapPage, words: &[&str]) -> Result<&'static str, Wrong> {
-    match words.split_first() {
-        Some((line, fields)) => {
-            let line = number_u16(*line)?;
-            let head = header(fields)?;
-            Ok(shown(page.set_head(line, &head)))
-        }
-        None => Err(Wrong::Line),
-    }
 }

@@ -1,7 +1,7 @@
 ghost use Rattle.std.specs.Prelude.{◌≡◌, ◌<◌, IfOk};
 ghost use Rattle.page_store.specs.Content.{table_count};
 
-use crate::items::ShowPage;
+use crate::items::page_text;
 use crate::pages::{change_page, set_page_byte};
 use case_text::{Wrong, number_u16, number_u32};
 use page_store::{Pool, PoolFault};
@@ -15,22 +15,12 @@ pub fn answer(alloc: Global, pool: &mut Pool, words: &[&str]) -> Result<String, 
     ensures { table_count pool.new ≡ 2 }
 {
     match *words {
-        ["blocks", table] => blocks(alloc, pool, number_u16(table)?),
-        ["look", table, block] => {
-            let tag = tag(table, block)?;
-            look(alloc, pool, tag)
+        ["blocks", table] => {
+            let count = pool.blocks(tag(table, "0")?.table);
+            Ok(format!(in alloc; "{count}")?)
         }
-        ["fresh", table, block] => {
-            let tag = tag(table, block)?;
-            let text = fresh(pool, tag)?;
-            Ok(String::from_str(alloc, text)?)
-        }
-        ["byte", table, block, at, value] => {
-            let tag = tag(table, block)?;
-            let text = spoil(pool, tag, at, value)?;
-            Ok(String::from_str(alloc, text)?)
-        }
-        _ => changed(alloc, pool, words),
+        ["look", table, block] => look(alloc, pool, tag(table, block)?),
+        _ => Ok(String::from_str(alloc, changed(alloc, pool, words)?)?),
     }
 }
 
@@ -46,26 +36,13 @@ fn tag(table: &str, block: &str) -> Result<Tag, Wrong>
     Ok(Tag { table, block })
 }
 
-fn blocks(alloc: Global, pool: &Pool, table: u16) -> Result<String, Wrong>
-    requires { table_count pool.now ≡ 2 }
-{
-    if table >= 2 {
-        return Err(Wrong::Number);
-    }
-    let count = pool.blocks(table);
-    Ok(format!(in alloc; "{count}")?)
-}
-
 /// The page of a block, or why it is not lent.
 fn look(alloc: Global, pool: &mut Pool, tag: Tag) -> Result<String, Wrong>
     requires { tag.table < table_count pool.old }
     ensures { table_count pool.new ≡ table_count pool.old }
 {
     match pool.look(tag) {
-        Ok(page) => {
-            let text = ShowPage(page);
-            Ok(format!(in alloc; "{text}")?)
-        }
+        Ok(page) => page_text(alloc, page),
         Err(fault) => Ok(String::from_str(alloc, shown(fault))?),
     }
 }
@@ -102,20 +79,17 @@ fn spoil(pool: &mut Pool, tag: Tag, at: &str, value: &str) -> Result<&'static st
     }
 }
 
-/// Changes the page of a block.
-fn changed(alloc: Global, pool: &mut Pool, words: &[&str]) -> Result<String, Wrong>
+/// Changes a table, or the page of a block.
+fn changed(alloc: Global, pool: &mut Pool, words: &[&str]) -> Result<&'static str, Wrong>
     requires { table_count pool.old ≡ 2 }
     ensures { table_count pool.new ≡ 2 }
 {
-    let Some((table, rest)) = words.split_first() else {
-        return Err(Wrong::Line);
-    };
-    let Some((block, rest)) = rest.split_first() else {
-        return Err(Wrong::Line);
-    };
-    let tag = tag(*table, *block)?;
-    let text = change(alloc, pool, tag, rest)?;
-    Ok(String::from_str(alloc, text)?)
+    match *words {
+        ["fresh", table, block] => fresh(pool, tag(table, block)?),
+        ["byte", table, block, at, value] => spoil(pool, tag(table, block)?, at, value),
+        [table, block, ref rest @ ..] => change(alloc, pool, tag(table, block)?, rest),
+        _ => Err(Wrong::Line),
+    }
 }
 
 fn change(alloc: Global, pool: &mut Pool, tag: Tag, words: &[&str]) -> Result<&'static str, Wrong>

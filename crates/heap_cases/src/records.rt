@@ -1,318 +1,246 @@
-ghost use Rattle.std.specs.Prelude.{◌≡◌};
-ghost use Rattle.page_store.specs.Content.{table_count};
-
-use case_text::{
-    ShowPosition, Wrong, bytes, locator, number_u8, number_u16, number_u32, number_u64, position,
-};
-use heap_redo::{RedoFault, redo};
-use page_store::Pool;
-use pg_types::{Bytes, Locator, Lsn, Place, Xid};
+//! How a record in typed form is shown.
+use case_text::{Answer, Wrong};
+use pg_types::{Locator, Xid};
 use std::alloc::Global;
-use wal_bodies::{Lines, NewTuple, NewTuples, Rec, RecBlock, RecBlocks, RecKind};
-use wal_record::{NewImage, RecordHead};
+use wal_bodies::{Lines, NewTuple, Rec, RecBlock, RecImage, RecKind, Xids};
 
-/// The files of the two described tables.
-pub static KNOWN: [Locator; 2] = [
-    Locator {
-        space: 1663,
-        db: 16384,
-        rel: 16385,
-    },
-    Locator {
-        space: 1663,
-        db: 16384,
-        rel: 16391,
-    },
-];
-
-/// A record in typed form, of which the last block is still to come.
-#[derive(Drop)]
-pub struct Draft {
-    rec: Rec,
-    block: Option<RecBlock>,
+/// A record: its transaction and info, where it begins and ends, what it says, and its blocks.
+pub fn show(alloc: Global, rec: &Rec<'_>) -> Result<String, Wrong> {
+    let mut answer = Answer::new(alloc);
+    answer.number(rec.head.xid.0);
+    answer.mask(" ", &[rec.head.info]);
+    answer.position(" ", rec.start);
+    answer.position(" ", rec.end);
+    answer.say(" ");
+    show_kind(&mut answer, rec);
+    for block in rec.blocks.again() {
+        show_block(&mut answer, &block);
+    }
+    answer.finish()
 }
 
-/// What a record of the heap does, and its info.
-#[derive(Drop)]
-struct Deed {
-    info: u8,
-    kind: RecKind,
-}
-
-impl Draft {
-    /// A record that changes nothing.
-    pub fn new(alloc: Global) -> Draft {
-        Draft {
-            rec: empty(alloc),
-            block: None,
+fn show_kind(answer: &mut Answer, rec: &Rec<'_>) {
+    match &rec.kind {
+        RecKind::Checkpoint { .. } => show_checkpoint(answer, &rec.kind),
+        RecKind::Parameters { .. } => show_parameters(answer, &rec.kind),
+        RecKind::Ended { .. } | RecKind::Running { .. } => show_xacts(answer, rec),
+        RecKind::BackupEnd { start } => answer.position("backup-end ", *start),
+        RecKind::FullPageWrites { on: true } => answer.say("page-writes on"),
+        RecKind::FullPageWrites { on: false } => answer.say("page-writes off"),
+        RecKind::Overwrite { given_up, time } => {
+            answer.position("given-up ", *given_up);
+            answer.say(" time ");
+            answer.signed(*time);
         }
+        RecKind::Images => answer.say("images"),
+        RecKind::Other => answer.say("other"),
+        _ => show_heap(answer, &rec.kind),
     }
+}
 
-    /// Begins a record: the transaction, where it begins and ends, and what it does.
-    pub fn begin(&mut self, alloc: Global, words: &[&str]) -> Result<String, Wrong> {
-        *self = Draft::new(alloc);
-        let Some((xid, rest)) = words.split_first() else {
-            return Err(Wrong::Line);
-        };
-        let Some((start, rest)) = rest.split_first() else {
-            return Err(Wrong::Line);
-        };
-        let Some((end, rest)) = rest.split_first() else {
-            return Err(Wrong::Line);
-        };
-        self.rec.head.xid = Xid(number_u64(*xid)?);
-        self.rec.start = position(*start)?;
-        self.rec.end = position(*end)?;
-        let deed = deed_of(alloc, rest)?;
-        self.rec.head.info = deed.info;
-        self.rec.kind = deed.kind;
-        Ok(String::from_str(alloc, "record")?)
+fn show_checkpoint(answer: &mut Answer, kind: &RecKind<'_>) {
+    if let RecKind::Checkpoint {
+        redo,
+        timeline,
+        previous,
+        full_page_writes,
+        next,
+        next_multi,
+        next_member,
+        oldest_multi,
+        oldest_active,
+    } = kind
+    {
+        answer.position("checkpoint redo ", *redo);
+        answer.field(" timeline ", u64::from(timeline.0));
+        answer.field(" previous ", u64::from(previous.0));
+        answer.say(" page-writes ");
+        answer.say(if *full_page_writes { "true" } else { "false" });
+        answer.field(" next ", next.0);
+        answer.field(" multi ", u64::from(*next_multi));
+        answer.field(" member ", u64::from(*next_member));
+        answer.field(" oldest-multi ", u64::from(*oldest_multi));
+        answer.field(" oldest-active ", oldest_active.0);
     }
+}
 
-    /// Begins a block of the record: its id, the file, the number, and whether the page is made anew.
-    pub fn add_block(&mut self, alloc: Global, words: &[&str]) -> Result<String, Wrong> {
-        self.end_block()?;
-        let block = match *words {
-            [id, file, number] => block(alloc, id, file, number, false)?,
-            [id, file, number, "anew"] => block(alloc, id, file, number, true)?,
-            _ => return Err(Wrong::Line),
-        };
-        self.block = Some(block);
-        Ok(String::from_str(alloc, "block")?)
+fn show_parameters(answer: &mut Answer, kind: &RecKind<'_>) {
+    if let RecKind::Parameters {
+        max_connections,
+        max_worker_processes,
+        max_wal_senders,
+        max_prepared_transactions,
+        max_locks_per_transaction,
+        wal_level,
+    } = kind
+    {
+        answer.say("parameters connections ");
+        answer.signed(i64::from(*max_connections));
+        answer.say(" workers ");
+        answer.signed(i64::from(*max_worker_processes));
+        answer.say(" senders ");
+        answer.signed(i64::from(*max_wal_senders));
+        answer.say(" prepared ");
+        answer.signed(i64::from(*max_prepared_transactions));
+        answer.say(" locks ");
+        answer.signed(i64::from(*max_locks_per_transaction));
+        answer.say(" level ");
+        answer.signed(i64::from(*wal_level));
     }
+}
 
-    /// Puts the last block to the others.
-    fn end_block(&mut self) -> Result<(), Wrong> {
-        if let Some(block) = self.block.take() {
-            self.rec.blocks.push(block)?;
+fn show_xacts(answer: &mut Answer, rec: &Rec<'_>) {
+    match &rec.kind {
+        RecKind::Ended { time, xinfo, xids } => {
+            answer.say(if rec.head.info & 0x70 == 0 {
+                "commit time "
+            } else {
+                "abort time "
+            });
+            answer.signed(*time);
+            answer.hex(" xinfo 0x", u64::from(*xinfo));
+            show_xids(answer, xids.again());
         }
-        Ok(())
-    }
-
-    /// An image of the last block: whether it is restored, where its hole begins, and its bytes.
-    pub fn add_image(&mut self, alloc: Global, words: &[&str]) -> Result<String, Wrong> {
-        let image = match *words {
-            ["restored", hole_at, data] => image(alloc, true, hole_at, data)?,
-            ["kept", hole_at, data] => image(alloc, false, hole_at, data)?,
-            _ => return Err(Wrong::Line),
-        };
-        match &mut self.block {
-            Some(block) => block.image = Some(image),
-            None => return Err(Wrong::Line),
+        RecKind::Running {
+            tops,
+            subs,
+            overflow,
+            next,
+            oldest,
+            latest,
+            xids,
+        } => {
+            answer.field("running tops ", u64::from(*tops));
+            answer.field(" subs ", u64::from(*subs));
+            answer.say(" overflow ");
+            answer.say(if *overflow { "true" } else { "false" });
+            answer.field(" next ", next.0);
+            answer.field(" oldest ", oldest.0);
+            answer.field(" latest ", latest.0);
+            show_xids(answer, xids.again());
         }
-        Ok(String::from_str(alloc, "image")?)
+        _ => {}
     }
+}
 
-    /// A tuple of the last block: infomask2, infomask, hoff, how many bytes of the old tuple's begin and end
-    /// it has, and its bytes from 23 on without those.
-    pub fn add_tuple(&mut self, alloc: Global, words: &[&str]) -> Result<String, Wrong> {
-        let tuple = new_tuple(alloc, words)?;
-        match &mut self.block {
-            Some(block) => block.tuples.push(tuple)?,
-            None => return Err(Wrong::Line),
+/// Ids between commas, and none as `-`.
+fn show_xids(answer: &mut Answer, xids: Xids<'_>) {
+    let mut is_first = true;
+    for xid in xids {
+        answer.field(if is_first { " xids " } else { "," }, xid.0);
+        is_first = false;
+    }
+    if is_first {
+        answer.say(" xids -");
+    }
+}
+
+/// Lines in the same way.
+fn show_lines(answer: &mut Answer, lines: Lines<'_>) {
+    let mut is_first = true;
+    for line in lines {
+        answer.field(if is_first { " lines " } else { "," }, u64::from(line));
+        is_first = false;
+    }
+    if is_first {
+        answer.say(" lines -");
+    }
+}
+
+fn show_heap(answer: &mut Answer, kind: &RecKind<'_>) {
+    match kind {
+        RecKind::Insert { line, flags } => {
+            answer.field("insert line ", u64::from(*line));
+            answer.mask(" flags ", &[*flags]);
         }
-        Ok(String::from_str(alloc, "tuple")?)
-    }
-}
-
-fn empty(alloc: Global) -> Rec {
-    Rec {
-        head: RecordHead {
-            total: 0,
-            xid: Xid(0),
-            prev: Lsn(0),
-            info: 0,
-            manager: 10,
-        },
-        start: Lsn(0),
-        end: Lsn(0),
-        kind: RecKind::Other,
-        blocks: RecBlocks::new(alloc),
-    }
-}
-
-fn block(
-    alloc: Global,
-    id: &str,
-    file: &str,
-    number: &str,
-    will_init: bool,
-) -> Result<RecBlock, Wrong> {
-    Ok(RecBlock {
-        id: number_u8(id)?,
-        locator: locator(file)?,
-        block: number_u32(number)?,
-        will_init,
-        image: None,
-        tuples: NewTuples::new(alloc),
-    })
-}
-
-fn image(alloc: Global, apply: bool, hole_at: &str, data: &str) -> Result<NewImage, Wrong> {
-    let data = bytes(alloc, data)?;
-    Ok(NewImage {
-        apply,
-        hole_at: number_u16(hole_at)?,
-        bytes: Bytes::from_slice(alloc, data.as_slice())?,
-    })
-}
-
-fn new_tuple(alloc: Global, words: &[&str]) -> Result<NewTuple, Wrong> {
-    match *words {
-        [mask2, mask, hoff, prefix, suffix, data] => {
-            let data = bytes(alloc, data)?;
-            Ok(NewTuple {
-                mask2: number_u16(mask2)?,
-                mask: number_u16(mask)?,
-                hoff: number_u8(hoff)?,
-                prefix: number_u16(prefix)?,
-                suffix: number_u16(suffix)?,
-                rest: Bytes::from_slice(alloc, data.as_slice())?,
-            })
+        RecKind::Delete {
+            xmax,
+            line,
+            bits,
+            flags,
+        } => show_mark(answer, "delete", *xmax, *line, [*bits, *flags]),
+        RecKind::Lock {
+            xmax,
+            line,
+            bits,
+            flags,
+        } => show_mark(answer, "lock", *xmax, *line, [*bits, *flags]),
+        RecKind::LockUpdated {
+            xmax,
+            line,
+            bits,
+            flags,
+        } => show_mark(answer, "lock-updated", *xmax, *line, [*bits, *flags]),
+        RecKind::Confirm { line } => answer.field("confirm line ", u64::from(*line)),
+        RecKind::MultiInsert { flags, lines } => {
+            answer.mask("multi-insert flags ", &[*flags]);
+            show_lines(answer, lines.again());
         }
-        _ => Err(Wrong::Line),
+        _ => show_update(answer, kind),
     }
 }
 
-/// What a record does. The words of an update are the old xmax, line and bits, the flags, the new xmax and
-/// line.
-fn deed_of(alloc: Global, words: &[&str]) -> Result<Deed, Wrong> {
-    match *words {
-        ["insert", line] => Ok(Deed {
-            info: 0,
-            kind: RecKind::Insert {
-                line: number_u16(line)?,
-                flags: 0,
-            },
-        }),
-        ["multi-insert", lines] => Ok(Deed {
-            info: 0x50,
-            kind: RecKind::MultiInsert {
-                flags: 0,
-                lines: lines_of(alloc, lines)?,
-            },
-        }),
-        ["images"] => Ok(Deed {
-            info: 0xB0,
-            kind: RecKind::Images,
-        }),
-        ["other"] => Ok(Deed {
-            info: 0,
-            kind: RecKind::Other,
-        }),
-        ["confirm", line] => Ok(Deed {
-            info: 0x50,
-            kind: RecKind::Confirm {
-                line: number_u16(line)?,
-            },
-        }),
-        _ => marking(words),
+/// A record that marks a tuple: the xmax, the line, and the bits and the flags of the mark.
+fn show_mark(answer: &mut Answer, what: &str, xmax: Xid, line: u16, marks: [u8; 2]) {
+    answer.say(what);
+    answer.field(" xmax ", xmax.0);
+    answer.field(" line ", u64::from(line));
+    answer.mask(" bits ", &[marks[0]]);
+    answer.mask(" flags ", &[marks[1]]);
+}
+
+fn show_update(answer: &mut Answer, kind: &RecKind<'_>) {
+    if let RecKind::Update {
+        old_xmax,
+        old_line,
+        old_bits,
+        flags,
+        new_xmax,
+        new_line,
+    } = kind
+    {
+        show_mark(answer, "update", *old_xmax, *old_line, [*old_bits, *flags]);
+        answer.field(" new-xmax ", new_xmax.0);
+        answer.field(" new-line ", u64::from(*new_line));
     }
 }
 
-/// A record that marks a tuple.
-fn marking(words: &[&str]) -> Result<Deed, Wrong> {
-    match *words {
-        ["delete", xmax, line, bits, flags] => Ok(Deed {
-            info: 0x10,
-            kind: RecKind::Delete {
-                xmax: number_u32(xmax)?,
-                line: number_u16(line)?,
-                bits: number_u8(bits)?,
-                flags: number_u8(flags)?,
-            },
-        }),
-        ["lock", xmax, line, bits] => Ok(Deed {
-            info: 0x60,
-            kind: RecKind::Lock {
-                xmax: number_u32(xmax)?,
-                line: number_u16(line)?,
-                bits: number_u8(bits)?,
-                flags: 0,
-            },
-        }),
-        ["lock-updated", xmax, line, bits] => Ok(Deed {
-            info: 0x60,
-            kind: RecKind::LockUpdated {
-                xmax: number_u32(xmax)?,
-                line: number_u16(line)?,
-                bits: number_u8(bits)?,
-                flags: 0,
-            },
-        }),
-        _ => updating(words),
+/// A block, with its image and its tuples.
+fn show_block(answer: &mut Answer, block: &RecBlock<'_>) {
+    let Locator { space, db, rel } = block.locator;
+    answer.field("; block ", u64::from(block.id));
+    answer.field(" ", u64::from(space));
+    answer.field("/", u64::from(db));
+    answer.field("/", u64::from(rel));
+    answer.field(" ", u64::from(block.block));
+    if block.will_init {
+        answer.say(" anew");
+    }
+    if let Some(image) = &block.image {
+        show_image(answer, image);
+    }
+    for tuple in block.tuples.again() {
+        show_new(answer, &tuple);
     }
 }
 
-/// A record that replaces a tuple.
-fn updating(words: &[&str]) -> Result<Deed, Wrong> {
-    match words.split_first() {
-        Some((first, rest)) => match *first {
-            "update" => Ok(Deed {
-                info: 0x20,
-                kind: replacing(rest)?,
-            }),
-            "hot-update" => Ok(Deed {
-                info: 0x40,
-                kind: replacing(rest)?,
-            }),
-            _ => Err(Wrong::Line),
-        },
-        None => Err(Wrong::Line),
-    }
+fn show_image(answer: &mut Answer, image: &RecImage<'_>) {
+    answer.say(if image.apply {
+        ", image restored "
+    } else {
+        ", image kept "
+    });
+    answer.number(u64::from(image.hole_at));
+    answer.say(" ");
+    answer.bytes(image.bytes.as_slice());
 }
 
-fn replacing(words: &[&str]) -> Result<RecKind, Wrong> {
-    match *words {
-        [old_xmax, old_line, old_bits, flags, new_xmax, new_line] => Ok(RecKind::Update {
-            old_xmax: number_u32(old_xmax)?,
-            old_line: number_u16(old_line)?,
-            old_bits: number_u8(old_bits)?,
-            flags: number_u8(flags)?,
-            new_xmax: number_u32(new_xmax)?,
-            new_line: number_u16(new_line)?,
-        }),
-        _ => Err(Wrong::Line),
-    }
-}
-
-/// Lines between commas.
-fn lines_of(alloc: Global, word: &str) -> Result<Lines, Wrong> {
-    let mut lines = Lines::new(alloc);
-    if word == "-" {
-        return Ok(lines);
-    }
-    for part in word.split(',') {
-        lines.push(number_u16(part)?)?;
-    }
-    Ok(lines)
-}
-
-/// Applies the record, and tells why not.
-pub fn redo_draft(alloc: Global, draft: &mut Draft, pool: &mut Pool) -> Result<String, Wrong>
-    requires { table_count pool.old ≡ 2 }
-    ensures { table_count pool.new ≡ 2 }
-{
-    draft.end_block()?;
-    match redo(&draft.rec, &KNOWN, pool) {
-        Ok(()) => Ok(String::from_str(alloc, "applied")?),
-        Err(fault) => fault_text(alloc, fault),
-    }
-}
-
-fn fault_text(alloc: Global, fault: RedoFault) -> Result<String, Wrong> {
-    match fault {
-        RedoFault::PageMissing { lsn, place } => placed(alloc, "no page", lsn, place),
-        RedoFault::NoTuple { lsn, place } => placed(alloc, "no tuple", lsn, place),
-        RedoFault::PageFull { lsn, place } => placed(alloc, "page full", lsn, place),
-        RedoFault::BadPage { lsn, place } => placed(alloc, "bad page", lsn, place),
-        RedoFault::Memory => Err(Wrong::Memory),
-    }
-}
-
-fn placed(alloc: Global, what: &str, lsn: Lsn, place: Place) -> Result<String, Wrong> {
-    let at = ShowPosition(lsn);
-    let block = place.block;
-    let line = place.line;
-    Ok(format!(in alloc; "{at}: {what} {block},{line}")?)
+fn show_new(answer: &mut Answer, tuple: &NewTuple<'_>) {
+    answer.mask(", tuple ", &tuple.mask2.to_be_bytes());
+    answer.mask(" ", &tuple.mask.to_be_bytes());
+    answer.field(" ", u64::from(tuple.hoff));
+    answer.field(" ", u64::from(tuple.prefix));
+    answer.field(" ", u64::from(tuple.suffix));
+    answer.say(" ");
+    answer.bytes(tuple.rest.as_slice());
 }

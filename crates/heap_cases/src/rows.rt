@@ -1,59 +1,53 @@
-use case_text::{ShowHex, Wrong};
+//! Rows of tuples.
+use case_text::{Answer, Wrong};
 use heap_tuple::{Cell, Column, Row, RowFault, TupleView};
 use std::alloc::Global;
-use std::fmt;
 
-/// Shows a value: bytes as `\x0a`, as PostgreSQL does.
-#[derive(Drop)]
-struct ShowCell<'a>(&'a Cell);
-
-impl<'a> fmt::Display for ShowCell<'a> {
-    fn fmt<W: fmt::Write>(&self, f: &mut fmt::Formatter<W>) -> fmt::Result {
-        match self.0 {
-            Cell::Null => write!(f, "null"),
-            Cell::Bool(true) => write!(f, "true"),
-            Cell::Bool(false) => write!(f, "false"),
-            Cell::Int(number) => write!(f, "{number}"),
-            Cell::Bytes(bytes) => {
-                let hex = ShowHex(bytes.as_slice());
-                write!(f, "\\x{hex}")
-            }
+/// A value: bytes in hex, behind a mark.
+pub fn show_cell(answer: &mut Answer, mark: &str, cell: &Cell) {
+    match cell {
+        Cell::Null => answer.say("null"),
+        Cell::Bool(true) => answer.say("true"),
+        Cell::Bool(false) => answer.say("false"),
+        Cell::Int(number) => answer.signed(*number),
+        Cell::Bytes(bytes) => {
+            answer.say(mark);
+            answer.bytes(bytes.as_slice());
         }
     }
 }
 
-/// Shows a row as `(1, null)`.
-#[derive(Drop)]
-pub struct ShowRow<'a>(pub &'a Row);
-
-impl<'a> fmt::Display for ShowRow<'a> {
-    fn fmt<W: fmt::Write>(&self, f: &mut fmt::Formatter<W>) -> fmt::Result {
-        write!(f, "(")?;
-        let mut between = "";
-        for cell in self.0.as_slice() {
-            let cell = ShowCell(cell);
-            write!(f, "{between}{cell}")?;
-            between = ", ";
-        }
-        write!(f, ")")
+/// A row as `(1, null)`: bytes as `\x0a`, as PostgreSQL does.
+pub fn show_row(answer: &mut Answer, row: &Row) {
+    let mut is_first = true;
+    for cell in row.as_slice() {
+        answer.say(if is_first { "(" } else { ", " });
+        show_cell(answer, "\\x", cell);
+        is_first = false;
     }
+    answer.say(if row.is_empty() { "()" } else { ")" });
 }
 
 /// The row of the tuple that these bytes are, or why it has none.
 pub fn row_text(alloc: Global, bytes: &[u8], columns: &[Column]) -> Result<String, Wrong> {
-    match TupleView::read(bytes) {
-        Some(view) => values_text(alloc, &view, columns),
-        None => Ok(String::from_str(alloc, "no tuple")?),
+    let Some(view) = TupleView::read(bytes) else {
+        return Ok(String::from_str(alloc, "no tuple")?);
+    };
+    match view.deform(alloc, columns) {
+        Ok(row) => copied_text(alloc, &row),
+        Err(fault) => refused(alloc, fault),
     }
 }
 
-fn values_text(alloc: Global, view: &TupleView<'_>, columns: &[Column]) -> Result<String, Wrong> {
-    match view.deform(alloc, columns) {
-        Ok(row) => copied_text(alloc, &row),
-        Err(RowFault::Toasted { column }) => { Ok(format!(in alloc; "toasted, column {column}")?) }
-        Err(RowFault::Bad { column }) => Ok(format!(in alloc; "bad, column {column}")?),
-        Err(RowFault::Memory) => Err(Wrong::Memory),
+/// Why a tuple has no row.
+pub fn refused(alloc: Global, fault: RowFault) -> Result<String, Wrong> {
+    let mut answer = Answer::new(alloc);
+    match fault {
+        RowFault::Toasted { column } => answer.field("toasted, column ", u64::from(column)),
+        RowFault::Bad { column } => answer.field("bad, column ", u64::from(column)),
+        RowFault::Memory => return Err(Wrong::Memory),
     }
+    answer.finish()
 }
 
 /// The cells of a row, copied one by one.
@@ -62,6 +56,7 @@ fn copied_text(alloc: Global, row: &Row) -> Result<String, Wrong> {
     for cell in row.as_slice() {
         copy.push(cell.copy(alloc)?)?;
     }
-    let text = ShowRow(&copy);
-    Ok(format!(in alloc; "{text}")?)
+    let mut answer = Answer::new(alloc);
+    show_row(&mut answer, &copy);
+    answer.finish()
 }

@@ -3,15 +3,14 @@ ghost use Rattle.pg_types.specs.declared.status.Status.TheVariants.{None as Unse
 ghost use Rattle.page_store.specs.Content.{table_count};
 
 use crate::kinds::columns;
-use crate::rows::ShowRow;
-use case_text::{Wrong, number_u16, number_u32, number_u64};
+use crate::rows::show_row;
+use case_text::{Answer, Wrong, number_u16, number_u32, number_u64};
 use heap_tuple::Column;
 use page_store::Pool;
 use pg_types::{Status, Tag, Unknown, Xid, XidList};
-use seq_scan::{BlockEnd, BlockRows, read_block};
+use seq_scan::{BlockEnd, read_block};
 use standby_snapshot::Snapshot;
 use std::alloc::Global;
-use std::fmt;
 use tuple_visibility::Statuses;
 
 /// Transactions 50 and 52 committed, no other one did, and no multixact was made.
@@ -83,30 +82,32 @@ fn scan(
     ensures { table_count pool.new ≡ table_count pool.old }
 {
     let block = read_block(alloc, pool, tag, columns, snapshot, &Known {})?;
-    let text = ShowRows(&block);
-    Ok(format!(in alloc; "{text}")?)
-}
-
-/// Shows the rows of a block, and how they end.
-#[derive(Drop)]
-struct ShowRows<'a>(&'a BlockRows);
-
-impl<'a> fmt::Display for ShowRows<'a> {
-    fn fmt<W: fmt::Write>(&self, f: &mut fmt::Formatter<W>) -> fmt::Result {
-        for row in self.0.rows.as_slice() {
-            let row = ShowRow(row);
-            write!(f, "{row} ")?;
-        }
-        show_end(self.0.end, f)
+    let mut answer = Answer::new(alloc);
+    for row in block.rows.as_slice() {
+        show_row(&mut answer, row);
+        answer.say(" ");
     }
+    show_end(&mut answer, block.end);
+    answer.finish()
 }
 
-fn show_end<W: fmt::Write>(end: BlockEnd, f: &mut fmt::Formatter<W>) -> fmt::Result {
+/// How the rows of a block end.
+fn show_end(answer: &mut Answer, end: BlockEnd) {
     match end {
-        BlockEnd::Whole => write!(f, "end"),
-        BlockEnd::Toasted { line, column } => write!(f, "toasted at line {line}, column {column}"),
-        BlockEnd::Bad { line, column } => write!(f, "bad at line {line}, column {column}"),
-        BlockEnd::Unknown { line, id } => write!(f, "multixact {id} at line {line} is not known"),
-        BlockEnd::NoPage => write!(f, "no page"),
+        BlockEnd::Whole => answer.say("end"),
+        BlockEnd::Toasted { line, column } => {
+            answer.field("toasted at line ", u64::from(line));
+            answer.field(", column ", u64::from(column));
+        }
+        BlockEnd::Bad { line, column } => {
+            answer.field("bad at line ", u64::from(line));
+            answer.field(", column ", u64::from(column));
+        }
+        BlockEnd::Unknown { line, id } => {
+            answer.field("multixact ", u64::from(id));
+            answer.field(" at line ", u64::from(line));
+            answer.say(" is not known");
+        }
+        BlockEnd::NoPage => answer.say("no page"),
     }
 }

@@ -13,7 +13,8 @@ use Rattle.wal_bodies.specs.declared.types.Rec.{Rec}
 use Rattle.wal_bodies.specs.declared.types.RecBlock.{RecBlock}
 use Rattle.heap_redo.specs.After.{BlockRefusal, no_page, bad_page, Content, missing, broken, page, applied, is_images, page_of_image, made_anew, paged, changed, changed_page, after_change, after_image, after}
 use Rattle.heap_redo.specs.declared.fault.RedoFault.{RedoFault}
-use Rattle.heap_redo.specs.Redone.{Seen, absent, bad_block, seen_page, seen, View, content_of, stamped, is_anew, is_left, has_reached, left_by, redone_block, with_seen, or_zero_block, grown, view_with, table_of, view_by, redone_in, redone_at, Outcome, and_then, redone, Stands}
+use Rattle.page_store.specs.Seen.{Seen, absent, bad_block, seen_page, seen, View}
+use Rattle.heap_redo.specs.Redone.{content_of, stamped, is_anew, is_left, has_reached, left_by, redone_block, with_seen, or_zero_block, grown, view_with, table_of, view_by, redone_in, redone_at, Outcome, and_then, redone, Stands}
 use Rattle.heap_redo.proofs.OneBlock.{left-kept, redone-done, redone-by, left-ok, after-anew, after-restored}
 use Rattle.heap_redo.proofs.Sequence.{same-view, same-answer, redone-append, redone-first, redone-none}
 

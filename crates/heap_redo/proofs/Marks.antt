@@ -10,7 +10,7 @@ use Rattle.heap_page.proofs.LineLists.{trimmed-trimmed}
 use Rattle.heap_page.proofs.HeadKept.{head-keeps_put}
 use Rattle.heap_redo.specs.TupleHeads.{Head, head_of, head_bytes, replaced}
 use Rattle.heap_redo.specs.After.{BlockRefusal, answered, with_header, change_head, update_old, put}
-use Rattle.heap_redo.specs.declared.fault.Refusal.{Refusal}
+use Rattle.heap_redo.specs.declared.fault.BlockFault.{BlockFault}
 use Rattle.heap_redo.specs.Refused.{outcome}
 
 pub last-in_use : (page : List ℕ) → trimmed (items_of page) ≡ items_of page
@@ -65,6 +65,6 @@ module _ (items : List Item) (is_hot : Bool) (xmax line bits new_block new_line 
       subst (λ (a : Result (Unit {0}) PageError). IsOk (answered n (with_item next (n - 1) (normal new)) a)) (sym (same-put n new)) before
 
 -- a change that is not refused leaves nothing to say of a refusal
-pub never-err : (P : Type 0) → (items : List Item) (result : Result (Unit {0}) Refusal) (given : Result (List Item) BlockRefusal) → outcome items result ≡ given → IsOk given → OnErr result P
+pub never-err : (P : Type 0) → (items : List Item) (result : Result (Unit {0}) BlockFault) (given : Result (List Item) BlockRefusal) → outcome items result ≡ given → IsOk given → OnErr result P
 never-err P items (Ok done) given e h = tt
 never-err P items (Err refusal) given e h = absurd (false≢true (subst (λ (r : Result (List Item) BlockRefusal). IsOk r) (sym e) h))

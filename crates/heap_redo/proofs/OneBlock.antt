@@ -7,15 +7,16 @@ use Rattle.wal_bodies.specs.declared.types.RecImage.{RecImage}
 use Rattle.wal_bodies.specs.declared.types.Rec.{Rec}
 use Rattle.wal_bodies.specs.declared.types.RecBlock.{RecBlock}
 use Rattle.heap_redo.specs.After.{BlockRefusal, no_page, bad_page, Content, missing, broken, page, applied, is_images, page_of_image, after_restore, made_anew, paged, changed, changed_page, after_change, after_image, after}
-use Rattle.heap_redo.specs.declared.fault.Refusal.{Refusal}
+use Rattle.heap_redo.specs.declared.fault.BlockFault.{BlockFault}
 use Rattle.heap_redo.specs.Refused.{outcome, content_outcome}
-use Rattle.heap_redo.specs.Redone.{Seen, absent, bad_block, seen_page, seen, content_of, stamped, is_anew, is_left, has_reached, left_by, redone_block}
+use Rattle.page_store.specs.Seen.{Seen, absent, bad_block, seen_page, seen}
+use Rattle.heap_redo.specs.Redone.{content_of, stamped, is_anew, is_left, has_reached, left_by, redone_block}
 
 pub seen-page : (bytes : List ℕ) → IsPage bytes → seen (Some bytes) ≡ seen_page (lsn_of bytes) (items_of bytes)
 unfolding seen
 seen-page bytes h = ap (λ v. cond v (seen_page (lsn_of bytes) (items_of bytes)) bad_block) h
 
-pub paged-outcome : (bytes : List ℕ) (result : Result (Unit {0}) Refusal) → content_outcome bytes result ≡ paged (outcome (items_of bytes) result)
+pub paged-outcome : (bytes : List ℕ) (result : Result (Unit {0}) BlockFault) → content_outcome bytes result ≡ paged (outcome (items_of bytes) result)
 paged-outcome bytes (Ok done) = refl
 paged-outcome bytes (Err refusal) = refl
 

@@ -4,7 +4,8 @@ use Rattle.pg_types.specs.declared.names.Locator.{Locator}
 use Rattle.wal_bodies.specs.declared.types.Rec.{Rec}
 use Rattle.wal_bodies.specs.declared.types.RecBlock.{RecBlock}
 use Rattle.heap_redo.specs.declared.fault.RedoFault.{RedoFault}
-use Rattle.heap_redo.specs.Redone.{View, Outcome, and_then, redone_at, redone}
+use Rattle.page_store.specs.Seen.{View}
+use Rattle.heap_redo.specs.Redone.{Outcome, and_then, redone_at, redone}
 
 pub same-view : (a b : View) (x y : Result (Unit {0}) RedoFault) → (let o : Outcome = (a, x) in o) ≡ (b, y) → a ≡ b
 same-view a b x y e = ap (λ (o : Outcome). o.0) e

@@ -15,7 +15,8 @@ use Rattle.wal_bodies.specs.declared.types.RecBlock.{RecBlock}
 use Rattle.heap_redo.specs.After.{BlockRefusal, applied}
 use Rattle.heap_redo.specs.declared.fault.RedoFault.{RedoFault}
 use Rattle.heap_redo.specs.Refused.{pool_fault_at}
-use Rattle.heap_redo.specs.Redone.{Seen, bad_block, seen_page, seen, View, view_of, is_anew, is_left, redone_block, with_seen, or_zero_block, grown, view_with, view_by, view_outcome, Follows, fault_by, fault_outcome}
+use Rattle.page_store.specs.Seen.{Seen, bad_block, seen_page, seen, View, view_of}
+use Rattle.heap_redo.specs.Redone.{is_anew, is_left, redone_block, with_seen, or_zero_block, grown, view_with, view_by, view_outcome, Follows, fault_by, fault_outcome}
 use Rattle.heap_redo.proofs.OneBlock.{missing-refused, broken-refused, image-anew, image-not_left}
 
 seen-cond : (v : Bool) (bytes : List ℕ) (block : Option (List ℕ)) → seen (cond v (Some bytes) block) ≡ cond v (seen (Some bytes)) (seen block)

@@ -3,7 +3,8 @@ use Rattle.std.specs.Prelude.{◌≡◌, List, Result}
 use Rattle.pg_types.specs.declared.names.Locator.{Locator}
 use Rattle.wal_bodies.specs.declared.types.Rec.{Rec}
 use Rattle.heap_redo.specs.declared.fault.RedoFault.{RedoFault}
-use Rattle.heap_redo.specs.Redone.{View, redone, Stands}
+use Rattle.page_store.specs.Seen.{View}
+use Rattle.heap_redo.specs.Redone.{redone, Stands}
 
 -- Where a call left the blocks, whatever it answered, a repeated call leaves and answers what one call does:
 -- a record that was refused is refused again, one that was applied changes nothing more, and after want of

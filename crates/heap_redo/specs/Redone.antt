@@ -12,27 +12,9 @@ use Rattle.wal_bodies.specs.HeapKinds.{same_locator}
 use Rattle.heap_redo.specs.After.{BlockRefusal, no_page, Content, missing, broken, page, applied, is_images, after}
 use Rattle.heap_redo.specs.declared.fault.RedoFault.{RedoFault}
 use Rattle.heap_redo.specs.declared.fault.RedoFault.TheVariants.{Memory}
-use Rattle.heap_redo.specs.declared.fault.Refusal.{Refusal}
+use Rattle.heap_redo.specs.declared.fault.BlockFault.{BlockFault}
 use Rattle.heap_redo.specs.Refused.{refusal_of, fault_at}
-
--- a block as redo sees it: past the table's end, bytes that are no page, or a page with its position and
--- its items
-pub data Seen : Type 0 where
-  absent : Seen
-  bad_block : Seen
-  seen_page : ℕ → List Item → Seen
-
--- the block with these bytes
-unfoldable pub seen : Option (List ℕ) → Seen
-seen None = absent
-seen (Some bytes) = if is_page bytes then seen_page (lsn_of bytes) (items_of bytes) else bad_block
-
--- by a table's number and a block's number, the block
-abbrev pub View : Type 0
-View = ℕ → ℕ → Seen
-
-abbrev pub view_of : Blocks → View
-view_of blocks table block = seen (blocks table block)
+use Rattle.page_store.specs.Seen.{Seen, absent, bad_block, seen_page, seen, View}
 
 -- what the change of a block starts from
 abbrev pub content_of : Seen → Content
@@ -136,7 +118,7 @@ abbrev pub Follows : View → Result (Unit {0}) RedoFault → Result View RedoFa
 Follows view result given = ((result ≡ Err Memory) × IsOk given) ⊎ (view_outcome view result ≡ given)
 
 -- a page, where its change was not refused
-abbrev pub seen_outcome : List ℕ → Result (Unit {0}) Refusal → Result Seen BlockRefusal
+abbrev pub seen_outcome : List ℕ → Result (Unit {0}) BlockFault → Result Seen BlockRefusal
 seen_outcome bytes (Ok done) = Ok (seen (Some bytes))
 seen_outcome bytes (Err refusal) = Err (refusal_of refusal)
 

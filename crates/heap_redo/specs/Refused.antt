@@ -8,13 +8,13 @@ use Rattle.page_store.specs.declared.pool.PoolFault.TheVariants.{Missing, BadPag
 use Rattle.wal_bodies.specs.declared.types.Rec.{Rec}
 use Rattle.wal_bodies.specs.declared.types.RecBlock.{RecBlock}
 use Rattle.heap_redo.specs.After.{BlockRefusal, no_page, no_tuple, page_full, bad_page, Content, page}
-use Rattle.heap_redo.specs.declared.fault.Refusal.{Refusal}
-use Rattle.heap_redo.specs.declared.fault.Refusal.TheVariants.{NoPage, NoTuple, PageFull, BadPage}
+use Rattle.heap_redo.specs.declared.fault.BlockFault.{BlockFault}
+use Rattle.heap_redo.specs.declared.fault.BlockFault.TheVariants.{NoPage, NoTuple, PageFull, BadPage}
 use Rattle.heap_redo.specs.declared.fault.RedoFault.{RedoFault}
 use Rattle.heap_redo.specs.declared.fault.RedoFault.TheVariants.{PageMissing, NoTuple as NoTupleAt, PageFull as PageFullAt, BadPage as BadPageAt, Memory}
 
 -- the refusal of a block that the code answers
-abbrev pub refusal_of : Refusal → BlockRefusal
+abbrev pub refusal_of : BlockFault → BlockRefusal
 refusal_of NoPage = no_page
 refusal_of (NoTuple line) = no_tuple line
 refusal_of (PageFull line) = page_full line
@@ -38,11 +38,11 @@ pool_fault_at rec block BrokenPage = fault_at rec block bad_page
 pool_fault_at rec block NoRoom = Memory
 
 -- the items that a change leaves, if it is not refused
-abbrev pub outcome : List Item → Result (Unit {0}) Refusal → Result (List Item) BlockRefusal
+abbrev pub outcome : List Item → Result (Unit {0}) BlockFault → Result (List Item) BlockRefusal
 outcome items (Ok done) = Ok items
 outcome items (Err refusal) = Err (refusal_of refusal)
 
 -- the same of a block
-abbrev pub content_outcome : List ℕ → Result (Unit {0}) Refusal → Result Content BlockRefusal
+abbrev pub content_outcome : List ℕ → Result (Unit {0}) BlockFault → Result Content BlockRefusal
 content_outcome bytes (Ok done) = Ok (page (items_of bytes))
 content_outcome bytes (Err refusal) = Err (refusal_of refusal)

@@ -3,7 +3,7 @@
 use Rattle.std.specs.Prelude.{ℕ, ◌-◌, ◌/◌, ◌%◌, Bool, true, false, bit_and, bit_or, List, [], ◌∷◌, ◌++◌, if◌then◌else◌}
 use Rattle.byteorder.specs.Endian.{little_bytes}
 use Rattle.heap_tuple.specs.Tuple.{xmin_of, xmax_of, cid_of, ctid_block_of, ctid_line_of, infomask2_of, infomask_of, hoff_of, is_lock_only}
-use Rattle.wal_bodies.specs.Fields.{has}
+use Rattle.pg_types.specs.Numbers.{has_bits}
 
 -- the fields of a tuple's first 23 bytes
 pub record Head : Type 0 where
@@ -43,7 +43,7 @@ without mask bits = bit_and mask (65535 - bits)
 
 -- the mask's bit that a bit of the record sets
 abbrev pub set_for : ℕ → ℕ → ℕ → ℕ
-set_for bits bit flag = if has bits bit then flag else 0
+set_for bits bit flag = if has_bits bits bit then flag else 0
 
 -- the infomask after a mark: multixact (XLHL_XMAX_IS_MULTI), lock only, exclusive and key share lock
 unfoldable pub marked_mask : ℕ → ℕ → ℕ
@@ -73,11 +73,11 @@ hot false head = record head { mask2 = without head.mask2 0x4000 }
 -- ItemPointerSetMovedPartitions), or it has no next version
 abbrev pub pointing_after_delete : ℕ → ℕ → ℕ → Head → Head
 pointing_after_delete flags block line head =
-    if has flags 0x10 then pointing_to 0xFFFFFFFF 0xFFFD head else pointing_to block line head
+    if has_bits flags 0x10 then pointing_to 0xFFFFFFFF 0xFFFD head else pointing_to block line head
 
 -- a speculative insertion is taken back (XLH_DELETE_IS_SUPER): the inserter falls, and xmax stays
 abbrev pub taken_back : ℕ → ℕ → Head → Head
-taken_back flags before head = if has flags 0x08 then record head { xmin = 0; xmax = before } else head
+taken_back flags before head = if has_bits flags 0x08 then record head { xmin = 0; xmax = before } else head
 
 -- the header of a tuple that is deleted where it stands, at this block and line
 unfoldable pub deleted : ℕ → ℕ → ℕ → ℕ → ℕ → Head → Head

@@ -1,10 +1,8 @@
 ghost use Rattle.std.specs.Prelude.{◌≡◌};
-ghost use Rattle.wal_bodies.specs.Fields.{has};
+ghost use Rattle.pg_types.specs.Numbers.{has_bits};
 
 /// Bits of a record's flags and marks (heapam_xlog.h), and of the tuple's masks that they change.
 ///
-/// The xmax is the id of a multixact (`XLHL_XMAX_IS_MULTI`).
-pub const IS_MULTI: u8 = 1;
 /// The xmax only locks (`XLHL_XMAX_LOCK_ONLY`).
 pub const LOCK_ONLY: u8 = 2;
 /// The lock is an exclusive one (`XLHL_XMAX_EXCL_LOCK`).
@@ -21,8 +19,8 @@ pub const TAKEN_BACK: u8 = 0x08;
 pub const XMAX_BITS: u16 = 0xDCD0;
 
 /// Whether the flag is set.
-pub fn has(flags: u8, flag: u8) -> bool
-    ensures { result ≡ has flags flag }
+pub fn has_bits(flags: u8, flag: u8) -> bool
+    ensures { result ≡ has_bits flags flag }
 {
     flags & flag != 0
 }

@@ -1,10 +1,11 @@
 ghost use Rattle.std.specs.Prelude.{◌≡◌, ◌<◌, [], true, false, is_some, None, Some, OnErr};
 ghost use Rattle.heap_page.specs.Page.{items_of};
 ghost use Rattle.heap_redo.specs.After.{applied, is_images};
-ghost use Rattle.heap_redo.specs.Redone.{Seen, seen, is_anew, is_left, redone_block, seen_outcome};
+ghost use Rattle.page_store.specs.Seen.{Seen, seen};
+ghost use Rattle.heap_redo.specs.Redone.{is_anew, is_left, redone_block, seen_outcome};
 
 use crate::change::change;
-use crate::fault::Refusal;
+use crate::fault::BlockFault;
 use heap_page::HeapPage;
 use wal_bodies::{Rec, RecBlock, RecKind};
 
@@ -43,7 +44,7 @@ pub fn is_left(rec: &Rec<'_>, block: &RecBlock<'_>) -> bool
 }
 
 /// What a record leaves of a page without items that it makes anew.
-pub fn anew(page: &mut HeapPage, rec: &Rec<'_>, block: &RecBlock<'_>) -> Result<(), Refusal>
+pub fn anew(page: &mut HeapPage, rec: &Rec<'_>, block: &RecBlock<'_>) -> Result<(), BlockFault>
     requires items { items_of page.old ≡ [] }
     requires plain { applied block.now.image ≡ None }
     requires anew { is_anew block.now ≡ true }
@@ -58,7 +59,7 @@ pub fn anew(page: &mut HeapPage, rec: &Rec<'_>, block: &RecBlock<'_>) -> Result<
 
 /// What a record leaves of a block that is there, and that it does not make anew. A page that is refused
 /// stays as it is.
-pub fn changed(page: &mut HeapPage, rec: &Rec<'_>, block: &RecBlock<'_>) -> Result<(), Refusal>
+pub fn changed(page: &mut HeapPage, rec: &Rec<'_>, block: &RecBlock<'_>) -> Result<(), BlockFault>
     requires anew { is_anew block.now ≡ false }
     requires left { is_left rec.now block.now ≡ false }
     requires block { block.now.block < 4294967295 }

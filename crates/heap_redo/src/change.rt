@@ -3,7 +3,7 @@ ghost use Rattle.heap_page.specs.Page.{items_of};
 ghost use Rattle.heap_redo.specs.After.{changed};
 ghost use Rattle.heap_redo.specs.Refused.{outcome};
 
-use crate::fault::Refusal;
+use crate::fault::BlockFault;
 use crate::line::{confirm, delete, lock, lock_updated};
 use crate::update::{Versions, update};
 use crate::version::{insert, put_listed};
@@ -13,7 +13,7 @@ use wal_bodies::{Rec, RecBlock, RecKind};
 /// What a record changes in the page of a block. Where it is refused the page stays as it is: what may
 /// be refused is tested before it writes, and only a multi-insert keeps the page, to put it back.
 #[tactic(auto, unfolding(crate::specs::After::changed))]
-pub fn change(page: &mut HeapPage, rec: &Rec<'_>, block: &RecBlock<'_>) -> Result<(), Refusal>
+pub fn change(page: &mut HeapPage, rec: &Rec<'_>, block: &RecBlock<'_>) -> Result<(), BlockFault>
     ensures answer { outcome (items_of page.new) result
         ≡ changed rec.now block.now rec.now.kind (items_of page.old) }
     ensures err { OnErr result (page.new ≡ page.old) }

@@ -31,7 +31,7 @@ pub enum RedoFault {
 
 /// Why the change of one block is refused.
 #[derive(Clone, Copy, Debug, PartialEq, Eq)]
-pub enum Refusal {
+pub enum BlockFault {
     NoPage,
     NoTuple(u16),
     PageFull(u16),
@@ -39,37 +39,37 @@ pub enum Refusal {
 }
 
 /// A change of a line that the page refuses.
-pub fn at_line(error: PageError, line: u16) -> Refusal
+pub fn at_line(error: PageError, line: u16) -> BlockFault
     ensures { (items : List Item) → Err (refusal_of result) ≡ answered line items (Err error) }
 {
     match error {
-        PageError::Full => Refusal::PageFull(line),
-        PageError::NoLine => Refusal::NoTuple(line),
-        PageError::BadPage => Refusal::BadPage,
+        PageError::Full => BlockFault::PageFull(line),
+        PageError::NoLine => BlockFault::NoTuple(line),
+        PageError::BadPage => BlockFault::BadPage,
     }
 }
 
 /// The fault of a record that is refused at this block.
 #[tactic(auto, unfolding(crate::specs::Refused::fault_at))]
-pub fn fault_at(rec: &Rec<'_>, block: &RecBlock<'_>, refusal: Refusal) -> RedoFault
+pub fn fault_at(rec: &Rec<'_>, block: &RecBlock<'_>, refusal: BlockFault) -> RedoFault
     ensures { result ≡ fault_at rec.now block.now (refusal_of refusal) }
 {
     let lsn = rec.start;
     let block = block.block;
     match refusal {
-        Refusal::NoPage => RedoFault::PageMissing {
+        BlockFault::NoPage => RedoFault::PageMissing {
             lsn,
             place: Place { block, line: 0 },
         },
-        Refusal::NoTuple(line) => RedoFault::NoTuple {
+        BlockFault::NoTuple(line) => RedoFault::NoTuple {
             lsn,
             place: Place { block, line },
         },
-        Refusal::PageFull(line) => RedoFault::PageFull {
+        BlockFault::PageFull(line) => RedoFault::PageFull {
             lsn,
             place: Place { block, line },
         },
-        Refusal::BadPage => RedoFault::BadPage {
+        BlockFault::BadPage => RedoFault::BadPage {
             lsn,
             place: Place { block, line: 0 },
         },
@@ -81,8 +81,8 @@ pub fn pool_fault(rec: &Rec<'_>, block: &RecBlock<'_>, fault: PoolFault) -> Redo
     ensures { result ≡ pool_fault_at rec.now block.now fault }
 {
     match fault {
-        PoolFault::Missing => fault_at(rec, block, Refusal::NoPage),
-        PoolFault::BadPage => fault_at(rec, block, Refusal::BadPage),
+        PoolFault::Missing => fault_at(rec, block, BlockFault::NoPage),
+        PoolFault::BadPage => fault_at(rec, block, BlockFault::BadPage),
         PoolFault::Memory => RedoFault::Memory,
     }
 }

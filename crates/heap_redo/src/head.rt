@@ -3,12 +3,12 @@ ghost use Rattle.byteorder.specs.Endian.{little_bytes};
 ghost use Rattle.heap_redo.specs.TupleHeads.{head_of, head_bytes, set_for, marked_mask, marked_mask2, marked, pointing_to, hot, pointing_after_delete, taken_back, deleted, replaced, unlinked_if_locked, locked};
 
 use crate::bits::{
-    EXCLUSIVE, IS_MULTI, KEY_SHARE, KEYS_UPDATED, LOCK_ONLY, PARTITION_MOVE, TAKEN_BACK, XMAX_BITS,
-    has,
+    EXCLUSIVE, KEY_SHARE, KEYS_UPDATED, LOCK_ONLY, PARTITION_MOVE, TAKEN_BACK, XMAX_BITS, has_bits,
 };
 use byteorder::{ByteOrder, LittleEndian};
 use heap_tuple::is_lock_only;
 use pg_types::{u16_at, u32_at};
+use wal_bodies::IS_MULTI;
 
 /// The fields of a tuple's first 23 bytes (`HeapTupleHeaderData`, htup_details.h).
 #[derive(Clone, Copy)]
@@ -28,7 +28,7 @@ pub struct Header {
 fn set_for(bits: u8, bit: u8, flag: u16) -> u16
     ensures { result ≡ set_for bits bit flag }
 {
-    if has(bits, bit) { flag } else { 0 }
+    if has_bits(bits, bit) { flag } else { 0 }
 }
 
 /// The infomask after a mark.
@@ -128,7 +128,7 @@ impl Header {
     fn pointing_after_delete(self, flags: u8, block: u32, line: u16) -> Header
         ensures { head_in result ≡ pointing_after_delete flags block line (head_in self) }
     {
-        if has(flags, PARTITION_MOVE) {
+        if has_bits(flags, PARTITION_MOVE) {
             self.pointing_to(0xFFFF_FFFF, 0xFFFD)
         } else {
             self.pointing_to(block, line)
@@ -139,7 +139,7 @@ impl Header {
     fn taken_back(self, flags: u8, before: u64) -> Header
         ensures { head_in result ≡ taken_back flags before (head_in self) }
     {
-        if has(flags, TAKEN_BACK) {
+        if has_bits(flags, TAKEN_BACK) {
             Header {
                 xmin: 0,
                 xmax: before,

@@ -7,23 +7,23 @@ ghost use Rattle.heap_redo.specs.After.{answered, with_header, change_head, upda
 ghost use Rattle.heap_redo.specs.Heads.{head_in, headed};
 ghost use Rattle.heap_redo.specs.Refused.{refusal_of, outcome};
 
-use crate::fault::{Refusal, at_line};
+use crate::fault::{BlockFault, at_line};
 use crate::head::Header;
 use heap_page::{HeapPage, Item};
 
 /// The header of the tuple of a line, which is refused where it has none.
-fn header_at(page: &HeapPage, line: u16) -> Result<Header, Refusal>
+fn header_at(page: &HeapPage, line: u16) -> Result<Header, BlockFault>
     ensures ok { IfOk result (λ header. head_in header ≡ head_of (tuple_in (numbered (items_of page.now) line))) }
     ensures err { IfErr result (λ refusal. (change : Head → Head) → Err (refusal_of refusal) ≡ change_head line change (items_of page.now)) }
 {
     match page.item(line) {
         Item::Normal(bytes) => Ok(Header::read(bytes)),
-        _ => Err(Refusal::NoTuple(line)),
+        _ => Err(BlockFault::NoTuple(line)),
     }
 }
 
 /// What `put_header` answers. It changes nothing.
-fn check_header(page: &HeapPage, line: u16, header: Header) -> Result<(), Refusal>
+fn check_header(page: &HeapPage, line: u16, header: Header) -> Result<(), BlockFault>
     ensures { let head = head_bytes (head_in header) in outcome (with_header (items_of page.now) line head) result
         ≡ answered line (with_header (items_of page.now) line head) (set_head_answer (items_of page.now) line head) }
 {
@@ -34,7 +34,7 @@ fn check_header(page: &HeapPage, line: u16, header: Header) -> Result<(), Refusa
 }
 
 /// Gives the tuple of a line this header.
-fn put_header(page: &mut HeapPage, line: u16, header: Header) -> Result<(), Refusal>
+fn put_header(page: &mut HeapPage, line: u16, header: Header) -> Result<(), BlockFault>
     ensures answer { let head = head_bytes (head_in header) in outcome (items_of page.new) result
         ≡ answered line (with_header (items_of page.old) line head) (set_head_answer (items_of page.old) line head) }
     ensures err { OnErr result (page.new ≡ page.old) }
@@ -54,7 +54,7 @@ pub fn delete(
     xmax: u64,
     bits: u8,
     flags: u8,
-) -> Result<(), Refusal>
+) -> Result<(), BlockFault>
     ensures answer { outcome (items_of page.new) result
         ≡ change_head line (λ head. deleted xmax bits flags block line head) (items_of page.old) }
     ensures err { OnErr result (page.new ≡ page.old) }
@@ -73,7 +73,7 @@ pub fn update_old(
     is_hot: bool,
     new_block: u32,
     new_line: u16,
-) -> Result<(), Refusal>
+) -> Result<(), BlockFault>
     ensures answer { outcome (items_of page.new) result
         ≡ update_old is_hot xmax line bits new_block new_line (items_of page.old) }
     ensures err { OnErr result (page.new ≡ page.old) }
@@ -96,7 +96,7 @@ pub fn check_old(
     is_hot: bool,
     new_block: u32,
     new_line: u16,
-) -> Result<(), Refusal>
+) -> Result<(), BlockFault>
     ensures { outcome (headed (items_of page.now) line (λ head. replaced xmax bits is_hot new_block new_line head)) result
         ≡ update_old is_hot xmax line bits new_block new_line (items_of page.now) }
 {
@@ -110,7 +110,7 @@ pub fn check_old(
 
 /// The tuple of a line is inserted for good.
 #[tactic(auto, unfolding(crate::specs::After::change_head))]
-pub fn confirm(page: &mut HeapPage, block: u32, line: u16) -> Result<(), Refusal>
+pub fn confirm(page: &mut HeapPage, block: u32, line: u16) -> Result<(), BlockFault>
     ensures answer { outcome (items_of page.new) result
         ≡ change_head line (λ head. pointing_to block line head) (items_of page.old) }
     ensures err { OnErr result (page.new ≡ page.old) }
@@ -121,7 +121,13 @@ pub fn confirm(page: &mut HeapPage, block: u32, line: u16) -> Result<(), Refusal
 
 /// The tuple of a line is locked.
 #[tactic(auto, unfolding(crate::specs::After::change_head))]
-pub fn lock(page: &mut HeapPage, block: u32, line: u16, xmax: u64, bits: u8) -> Result<(), Refusal>
+pub fn lock(
+    page: &mut HeapPage,
+    block: u32,
+    line: u16,
+    xmax: u64,
+    bits: u8,
+) -> Result<(), BlockFault>
     ensures answer { outcome (items_of page.new) result
         ≡ change_head line (λ head. locked xmax bits block line head) (items_of page.old) }
     ensures err { OnErr result (page.new ≡ page.old) }
@@ -132,7 +138,7 @@ pub fn lock(page: &mut HeapPage, block: u32, line: u16, xmax: u64, bits: u8) -> 
 
 /// The tuple of a line, which has a newer version, is locked.
 #[tactic(auto, unfolding(crate::specs::After::change_head))]
-pub fn lock_updated(page: &mut HeapPage, line: u16, xmax: u64, bits: u8) -> Result<(), Refusal>
+pub fn lock_updated(page: &mut HeapPage, line: u16, xmax: u64, bits: u8) -> Result<(), BlockFault>
     ensures answer { outcome (items_of page.new) result
         ≡ change_head line (λ head. marked xmax bits head) (items_of page.old) }
     ensures err { OnErr result (page.new ≡ page.old) }
@@ -143,7 +149,12 @@ pub fn lock_updated(page: &mut HeapPage, line: u16, xmax: u64, bits: u8) -> Resu
 
 /// A tuple of this header and these bytes behind it goes to a free line.
 #[tactic(auto, unfolding(crate::specs::After::put))]
-pub fn put_tuple(page: &mut HeapPage, line: u16, header: Header, rest: &[u8]) -> Result<(), Refusal>
+pub fn put_tuple(
+    page: &mut HeapPage,
+    line: u16,
+    header: Header,
+    rest: &[u8],
+) -> Result<(), BlockFault>
     ensures answer { outcome (items_of page.new) result
         ≡ put line (head_bytes (head_in header) ++ rest.now) (items_of page.old) }
     ensures err { OnErr result (page.new ≡ page.old) }
@@ -156,7 +167,12 @@ pub fn put_tuple(page: &mut HeapPage, line: u16, header: Header, rest: &[u8]) ->
 
 /// What `put_tuple` answers. It changes nothing.
 #[tactic(auto, unfolding(crate::specs::After::put))]
-pub fn check_tuple(page: &HeapPage, line: u16, header: Header, rest: &[u8]) -> Result<(), Refusal>
+pub fn check_tuple(
+    page: &HeapPage,
+    line: u16,
+    header: Header,
+    rest: &[u8],
+) -> Result<(), BlockFault>
     ensures { let tuple = head_bytes (head_in header) ++ rest.now in
         outcome (with_item (items_of page.now) (line - 1) (normal tuple)) result ≡ put line tuple (items_of page.now) }
 {

@@ -1,11 +1,12 @@
 ghost use Rattle.std.specs.Prelude.{◌≡◌, ◌<◌, ◌≤◌, ◌^◌, true, false, length, None, Some, Err, IfSome, OnErr};
 ghost use Rattle.page_store.specs.Content.{content, table_count};
 ghost use Rattle.heap_redo.specs.After.{applied};
-ghost use Rattle.heap_redo.specs.Redone.{seen, view_of, fault_by, fault_outcome, is_anew, is_left, redone_block, view_by, table_of, redone_at, view_outcome, Follows, Stands};
+ghost use Rattle.page_store.specs.Seen.{seen, view_of};
+ghost use Rattle.heap_redo.specs.Redone.{fault_by, fault_outcome, is_anew, is_left, redone_block, view_by, table_of, redone_at, view_outcome, Follows, Stands};
 ghost use Rattle.table_schema.specs.Description.{locators};
 
 use crate::block::{anew, changed, is_anew, is_left};
-use crate::fault::{RedoFault, Refusal, fault_at, pool_fault};
+use crate::fault::{BlockFault, RedoFault, fault_at, pool_fault};
 use heap_page::{HeapPage, shows_page};
 use page_store::Pool;
 use pg_types::{Locator, Tag};
@@ -77,7 +78,7 @@ fn restore(
         bytes: image.bytes.as_slice(),
     };
     if !shows_page(&view) {
-        return Err(fault_at(rec, block, Refusal::BadPage));
+        return Err(fault_at(rec, block, BlockFault::BadPage));
     }
     match pool.fresh(tag) {
         Ok(page) => {
@@ -152,7 +153,7 @@ fn redo_block(
         return Ok(());
     };
     if block.block == 4_294_967_295 {
-        return Err(fault_at(rec, block, Refusal::NoPage));
+        return Err(fault_at(rec, block, BlockFault::NoPage));
     }
     if is_left(rec, block) {
         return Ok(());

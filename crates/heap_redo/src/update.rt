@@ -6,7 +6,7 @@ ghost use Rattle.heap_redo.specs.Refused.{outcome};
 ghost use Rattle.heap_redo.specs.Heads.{headed};
 ghost use Rattle.heap_redo.specs.TupleHeads.{replaced};
 
-use crate::fault::Refusal;
+use crate::fault::BlockFault;
 use crate::line::{check_old, update_old};
 use crate::version::{check_new, join, put_new, user_data};
 use heap_page::HeapPage;
@@ -54,7 +54,7 @@ fn update_within(
     rec: &Rec<'_>,
     block: &RecBlock<'_>,
     versions: Versions,
-) -> Result<(), Refusal>
+) -> Result<(), BlockFault>
     ensures answer { outcome (items_of page.new) result
         ≡ update_within rec.now block.now versions.is_hot versions.old_xmax versions.old_line versions.old_bits
         versions.new_xmax versions.new_line (items_of page.old) }
@@ -81,7 +81,7 @@ fn replace(
     versions: Versions,
     tuple: &NewTuple<'_>,
     bytes: &mut [u8],
-) -> Result<(), Refusal>
+) -> Result<(), BlockFault>
     requires some { 0 < length block.now.tuples }
     requires tuple { tuple.now ≡ get_or block.now.tuples 0 tuple.now }
     requires marks { Ok (headed (items_of page.old) versions.old_line
@@ -98,7 +98,7 @@ fn replace(
     let xmax = versions.new_xmax;
     let line = versions.new_line;
     let Some(len) = joined(page, versions.old_line, tuple, bytes) else {
-        return Err(Refusal::NoTuple(versions.old_line));
+        return Err(BlockFault::NoTuple(versions.old_line));
     };
     let rest = &bytes[..len];
     check_new(page, xid, xmax, block.block, line, tuple, rest)?;
@@ -108,7 +108,7 @@ fn replace(
 
 /// What `mark_old` answers. It changes nothing.
 #[tactic(auto, unfolding(crate::specs::After::update_old))]
-fn check_mark(page: &HeapPage, versions: Versions, new_block: u32) -> Result<(), Refusal>
+fn check_mark(page: &HeapPage, versions: Versions, new_block: u32) -> Result<(), BlockFault>
     ensures { outcome (headed (items_of page.now) versions.old_line
         (λ head. replaced versions.old_xmax versions.old_bits versions.is_hot new_block versions.new_line head)) result
         ≡ update_old versions.is_hot versions.old_xmax versions.old_line versions.old_bits new_block versions.new_line (items_of page.now) }
@@ -126,7 +126,7 @@ fn check_mark(page: &HeapPage, versions: Versions, new_block: u32) -> Result<(),
 
 /// The old version points to the new one in this block.
 #[tactic(auto, unfolding(crate::specs::After::update_old))]
-fn mark_old(page: &mut HeapPage, versions: Versions, new_block: u32) -> Result<(), Refusal>
+fn mark_old(page: &mut HeapPage, versions: Versions, new_block: u32) -> Result<(), BlockFault>
     ensures answer { outcome (items_of page.new) result
         ≡ update_old versions.is_hot versions.old_xmax versions.old_line versions.old_bits new_block versions.new_line (items_of page.old) }
     ensures err { OnErr result (page.new ≡ page.old) }
@@ -148,7 +148,7 @@ fn put_version(
     rec: &Rec<'_>,
     block: &RecBlock<'_>,
     versions: Versions,
-) -> Result<(), Refusal>
+) -> Result<(), BlockFault>
     ensures answer { outcome (items_of page.new) result
         ≡ put_version rec.now.head.xid.0 versions.new_xmax block.now.block versions.new_line block.now.tuples [] (items_of page.old) }
     ensures err { OnErr result (page.new ≡ page.old) }
@@ -186,7 +186,7 @@ pub fn update(
     rec: &Rec<'_>,
     block: &RecBlock<'_>,
     versions: Versions,
-) -> Result<(), Refusal>
+) -> Result<(), BlockFault>
     requires { versions.is_hot ≡ (bit_and rec.now.head.info 112 == 64) }
     ensures answer { outcome (items_of page.new) result
         ≡ update rec.now block.now versions.old_xmax versions.old_line versions.old_bits versions.new_xmax versions.new_line

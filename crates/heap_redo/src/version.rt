@@ -6,7 +6,7 @@ ghost use Rattle.heap_redo.specs.Heads.{head_in};
 ghost use Rattle.heap_redo.specs.Refused.{outcome};
 ghost use Rattle.heap_redo.specs.TupleHeads.{head_bytes};
 
-use crate::fault::Refusal;
+use crate::fault::BlockFault;
 use crate::head::Header;
 use crate::line::{check_tuple, put_tuple};
 use heap_page::{HeapPage, Item};
@@ -38,7 +38,7 @@ pub fn put_new(
     line: u16,
     tuple: &NewTuple<'_>,
     rest: &[u8],
-) -> Result<(), Refusal>
+) -> Result<(), BlockFault>
     ensures answer { outcome (items_of page.new) result
         ≡ put line (tuple_of xid xmax block line tuple.now rest.now) (items_of page.old) }
     ensures err { OnErr result (page.new ≡ page.old) }
@@ -55,7 +55,7 @@ pub fn check_new(
     line: u16,
     tuple: &NewTuple<'_>,
     rest: &[u8],
-) -> Result<(), Refusal>
+) -> Result<(), BlockFault>
     ensures { let new = tuple_of xid xmax block line tuple.now rest.now in
         outcome (with_item (items_of page.now) (line - 1) (normal new)) result ≡ put line new (items_of page.now) }
 {
@@ -69,7 +69,7 @@ pub fn insert(
     block: u32,
     line: u16,
     tuples: &NewTuples<'_>,
-) -> Result<(), Refusal>
+) -> Result<(), BlockFault>
     ensures answer { outcome (items_of page.new) result
         ≡ put_listed xid block (line ∷ []) tuples.now (items_of page.old) }
     ensures err { OnErr result (page.new ≡ page.old) }
@@ -87,7 +87,7 @@ fn put_each(
     block: u32,
     lines: &Lines<'_>,
     tuples: &NewTuples<'_>,
-) -> Result<(), Refusal>
+) -> Result<(), BlockFault>
     ensures { outcome (items_of page.new) result
         ≡ put_listed xid block lines.now tuples.now (items_of page.old) }
 {
@@ -109,7 +109,7 @@ pub fn put_listed(
     block: u32,
     lines: &Lines<'_>,
     tuples: &NewTuples<'_>,
-) -> Result<(), Refusal>
+) -> Result<(), BlockFault>
     ensures answer { outcome (items_of page.new) result
         ≡ put_listed xid block lines.now tuples.now (items_of page.old) }
     ensures err { OnErr result (page.new ≡ page.old) }

@@ -1,6 +1,6 @@
 -- A heap tuple by its bytes: the header (HeapTupleHeaderData, htup_details.h) and what it says.
 use Rattle.std.specs.Prelude.{ℕ, ◌+◌, ◌*◌, ◌/◌, ◌%◌, ◌^◌, Bool, not, ◌&&◌, ◌||◌, ◌==◌, nat_le, IsTrue, List, length, slice_index, if◌then◌else◌, bit_and}
-use Rattle.pg_types.specs.Numbers.{number_at}
+use Rattle.pg_types.specs.Numbers.{number_at, has_bits}
 use Rattle.heap_tuple.specs.declared.tuple_view.MaxOf.{MaxOf}
 use Rattle.heap_tuple.specs.declared.tuple_view.MaxOf.TheVariants.{None as NoDeleter, Xid as DeletedBy, Multi}
 
@@ -39,10 +39,6 @@ hoff_of bytes = slice_index bytes 22
 -- the number of columns that the tuple has (HeapTupleHeaderGetNatts)
 abbrev pub columns_of : List ℕ → ℕ
 columns_of bytes = infomask2_of bytes % 2 ^ 11
-
--- whether a mask has any of these bits
-abbrev pub has_bits : ℕ → ℕ → Bool
-has_bits mask bits = not (bit_and mask bits == 0)
 
 -- the least place of the user data: behind the header of 23 bytes and, with nulls (0x0001), a bit for
 -- each column

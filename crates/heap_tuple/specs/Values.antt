@@ -1,8 +1,8 @@
 -- The values of a tuple's columns (heap_deform_tuple, heaptuple.c; tupmacs.h; varatt.h).
 use Rattle.std.specs.Prelude.{◌≡◌, ℕ, ◌+◌, ◌-◌, ◌*◌, ◌/◌, ◌%◌, ◌^◌, Bool, true, false, not, ◌||◌, ◌==◌, nat_le, nat_lt, List, [], ◌∷◌, length, drop, take, slice_index, if◌then◌else◌, Result, Ok, Err, pos, unwrap_or}
 use Rattle.std.specs.Int.{cast_signed, w16, w32, w64}
-use Rattle.pg_types.specs.Numbers.{number_at}
-use Rattle.heap_tuple.specs.Tuple.{columns_of, infomask_of, hoff_of, has_bits}
+use Rattle.pg_types.specs.Numbers.{number_at, has_bits}
+use Rattle.heap_tuple.specs.Tuple.{columns_of, infomask_of, hoff_of}
 use Rattle.heap_tuple.specs.declared.cell.Kind.{Kind}
 use Rattle.heap_tuple.specs.declared.cell.Kind.TheVariants.{Bool as BoolKind, Int2, Int4, Int8, Oid, Uuid, Text, Bytea, Raw4, Raw8}
 use Rattle.heap_tuple.specs.declared.cell.Cell.{Cell}

@@ -6,22 +6,21 @@ use Rattle.pg_types.specs.declared.names.Locator.{Locator}
 use Rattle.pg_types.specs.declared.names.Lsn.{Lsn}
 use Rattle.wal_bodies.specs.declared.types.Rec.{Rec}
 use Rattle.heap_redo.specs.declared.fault.RedoFault.{RedoFault}
-use Rattle.heap_redo.specs.Redone.{View, absent, redone, view_outcome}
+use Rattle.page_store.specs.Seen.{View, absent}
+use Rattle.heap_redo.specs.Redone.{redone, view_outcome}
 use Rattle.xact_redo.specs.State.{TransactionState, state_after}
 use Rattle.row_model.specs.RowSteps.{blocks_of, view_after, view_before, view_with_record}
-use Rattle.row_redo.specs.Shown.{Rises as RowsRise}
 use Rattle.row_visibility.specs.Sees.{state_along}
 use Rattle.table_schema.specs.Description.{Description, locators}
 use Rattle.standby_core.specs.Replay.{awaited_after, ends_backup}
 use Rattle.standby_core.specs.Standby.{Standby, at_origin}
-use Rattle.standby_model.specs.Laws.{Rises}
-use Rattle.standby_model.specs.Log.{end_of}
+use Rattle.wal_bodies.specs.Ends.{end_of, Rises}
 use Rattle.scan_model.specs.Run.{applied, origin, redone_on, replayed, start}
 use Rattle.scan_model.proofs.Runs.{goes_on, led_before, redone_is, set_up}
 use Rattle.legal_scan.specs.Answer.{has_backup_ended, origin_with}
 
 -- a log that rises from a position does
-pub rises_too : (from : ℕ) (log : List Rec) → Rises from log → RowsRise log
+pub rises_too : (from : ℕ) (log : List Rec) → Rises from log → Rises 0 log
 rises_too from [] rises = tt
 rises_too from (rec ∷ []) (onward, rises) = (omega (arith, onward), tt)
 rises_too from (rec ∷ older ∷ log) (onward, rises) = (onward, rises_too from (older ∷ log) rises)

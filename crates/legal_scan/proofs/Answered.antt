@@ -7,7 +7,8 @@ use Rattle.pg_types.specs.declared.names.Lsn.{Lsn}
 use Rattle.wal_bodies.specs.declared.types.Rec.{Rec}
 use Rattle.known_assigned.specs.declared.state.State.{State}
 use Rattle.known_assigned.specs.declared.state.State.TheVariants.{Initialized, Pending, Ready}
-use Rattle.heap_redo.specs.Redone.{View, Seen, absent, bad_block, seen_page, table_of}
+use Rattle.page_store.specs.Seen.{View, Seen, absent, bad_block, seen_page}
+use Rattle.heap_redo.specs.Redone.{table_of}
 use Rattle.seq_scan.specs.BlockRows.{BlockRows}
 use Rattle.xact_redo.specs.Sees.{sees}
 use Rattle.xact_redo.specs.State.{TransactionState}
@@ -32,14 +33,15 @@ use Rattle.schema_file.specs.SchemaFile.{Reading, Absent, Read, AnswersFile}
 use Rattle.standby_core.specs.Replay.{refusal_of}
 use Rattle.standby_core.specs.Standby.{Standby, described_in}
 use Rattle.standby_model.specs.Archived.{told_by}
-use Rattle.standby_model.specs.Laws.{LogRises, Rises}
-use Rattle.standby_model.specs.Log.{Stop, Ended, Refused, end_of, next_of}
+use Rattle.standby_model.specs.Laws.{LogRises}
+use Rattle.wal_bodies.specs.Ends.{end_of, Rises}
+use Rattle.standby_model.specs.Log.{Stop, Ended, Refused, next_of}
 use Rattle.scan_model.specs.Run.{origin, redone_at, redone_on, replayed}
 use Rattle.scan_model.specs.Tables.{file_of, number_named, table_with}
-use Rattle.scan_model.specs.Scan.{Reply, Start, Scans, StartsWith, AnswersLog, AnswersStart, LogRefused, NotAdmitted, Scanned, AnswersBlocks as AnswersRefused, AnswersNext, AnswersOpening, AnswersRows as AnswersBlocks, AnswersTable as AnswersNumber, is_admitted, is_ready, is_there, is_whole, page_of, pages_from, schema_name, start_by, table_of as named_by}
+use Rattle.scan_model.specs.Scan.{Answer, Start, Scans, StartsWith, AnswersLog, AnswersStart, LogRefused, NotAdmitted, Scanned, AnswersBlocks as AnswersRefused, AnswersNext, AnswersOpening, AnswersRows as AnswersBlocks, AnswersTable as AnswersNumber, is_admitted, is_ready, is_there, is_whole, page_of, pages_from, schema_name, start_by, table_of as named_by}
 use Rattle.scan_model.proofs.Replies.{one_count, one_start}
 use Rattle.scan_model.proofs.Runs.{set_up}
-use Rattle.legal_scan.specs.Answer.{AnswersAdmitted, IsLegal, AnswersRows, AnswersTable, LegalAnswer, LegalScan, admits, has_backup_ended, origin_with, page_with}
+use Rattle.legal_scan.specs.Answer.{AnswersAdmitted, IsLegal, AnswersLogRows, AnswersTable, LegalAnswer, LegalScan, admits, has_backup_ended, origin_with, page_with}
 use Rattle.legal_scan.proofs.Described.{file_is_found}
 use Rattle.legal_scan.proofs.Fitting.{all_fit, files_tell_bytes}
 use Rattle.legal_scan.proofs.Along.{awaited_along, awaited_with, awaits, blocks_are, past_redo, replayed_where, rises_too, transactions_along}
@@ -64,7 +66,7 @@ pages_same f g block (suc n) e =
     ap (λ (p : BlockRows). p ∷ (if is_whole p.end then pages_from f (block + 1) n else [])) first
     ∙ ap (λ (pages : List BlockRows). g block ∷ (if is_whole (g block).end then pages else [])) rest
 
-ready_when : (mode : State) → is_ready mode ≡ true → mode ≡ Ready
+pub ready_when : (mode : State) → is_ready mode ≡ true → mode ≡ Ready
 ready_when Initialized e = cc
 ready_when (Pending until) e = cc
 ready_when Ready e = refl
@@ -92,7 +94,7 @@ admitted_is tables log node rises leads mode =
 
 -- a scan that is not admitted
 refused :
-    (tables : Description) (top : ℕ → ℕ) (log : List Rec) (node : Standby) (table : ℕ) (reply : Reply) → replayed tables log ≡ Ok node
+    (tables : Description) (top : ℕ → ℕ) (log : List Rec) (node : Standby) (table : ℕ) (reply : Answer) → replayed tables log ≡ Ok node
     → (state_along log).known.mode ≡ state_of (transactions_of log)
     → reply ≡ NotAdmitted node.min.0 node.at.0 (is_some node.awaited) node.transactions.known.mode
     → AnswersAdmitted false tables top log table (end_of origin.redo.0 log) reply
@@ -121,10 +123,10 @@ record Laws : Type 0 where
 module _ (laws : Laws) (tables : Description) (top : ℕ → ℕ) (log : List Rec) (node : Standby) where
   -- a scan that is admitted
   scanned :
-      (table : ℕ) (reply : Reply) → table_of (locators tables) (file_of tables table) ≡ Some table
+      (table : ℕ) (reply : Answer) → table_of (locators tables) (file_of tables table) ≡ Some table
       → LegalLog (origin_with top) (locators tables) log → All RecordFits log → Rises origin.redo.0 log
       → replayed tables log ≡ Ok node → (state_along log).known.mode ≡ Ready → AnswersBlocks node table reply
-      → AnswersRows tables top log table (end_of origin.redo.0 log) reply
+      → AnswersLogRows tables top log table (end_of origin.redo.0 log) reply
   scanned table reply is rules fit rises leads ready answer =
       let o = origin_with top in
       let known = locators tables in
@@ -160,7 +162,7 @@ module _ (laws : Laws) (tables : Description) (top : ℕ → ℕ) (log : List Re
       }
 
   by_admission :
-      (table : ℕ) (reply : Reply) → table_of (locators tables) (file_of tables table) ≡ Some table
+      (table : ℕ) (reply : Answer) → table_of (locators tables) (file_of tables table) ≡ Some table
       → LegalLog (origin_with top) (locators tables) log → All RecordFits log → Rises origin.redo.0 log
       → replayed tables log ≡ Ok node → (state_along log).known.mode ≡ state_of (transactions_of log)
       → (admitted : Bool) → admits log ≡ admitted → AnswersOpening node table admitted reply
@@ -173,7 +175,7 @@ module _ (laws : Laws) (tables : Description) (top : ℕ → ℕ) (log : List Re
 
   -- where the log ends, by the table
   by_table :
-      (number : Option ℕ) (reply : Reply)
+      (number : Option ℕ) (reply : Answer)
       → ((table : ℕ) → number ≡ Some table → table_of (locators tables) (file_of tables table) ≡ Some table)
       → LegalLog (origin_with top) (locators tables) log → All RecordFits log → Rises origin.redo.0 log
       → replayed tables log ≡ Ok node → AnswersNumber node number reply → AnswersTable tables top log number reply
@@ -186,7 +188,7 @@ module _ (laws : Laws) (tables : Description) (top : ℕ → ℕ) (log : List Re
 
 -- over a legal log no record is refused at its blocks
 not_refused :
-    (tables : Description) (rec : Rec) (log : List Rec) (node next : Standby) (reply : Reply) → replayed tables log ≡ Ok node
+    (tables : Description) (rec : Rec) (log : List Rec) (node next : Standby) (reply : Answer) → replayed tables log ≡ Ok node
     → replayed tables (rec ∷ log) ≡ Ok next → AnswersRefused node (redone_at rec node) reply → ⊥
 not_refused tables rec log node next reply leads on answer =
     let here : redone_at rec node ≡ Ok next = sym (ap (λ (r : Result Standby RedoFault). redone_on rec r) leads) ∙ on in
@@ -223,7 +225,7 @@ module _
     (laws : Laws) (apart : TablesAreApart) (all_rise : LogRises) (fits : ToldNumbersFit) (tables : Description) (text : List ℕ)
     (is_described : TextAnswers text (Ok tables)) (top : ℕ → ℕ) (files : List ℕ → Option (List ℕ)) (name : List ℕ) where
   over_log :
-      (reply : Reply) → HaveBytes (Some files) → IsLegal tables top files → AnswersLog tables name files reply
+      (reply : Answer) → HaveBytes (Some files) → IsLegal tables top files → AnswersLog tables name files reply
       → LegalAnswer tables top files name reply
   over_log reply have is answer = by (next_of (told_by files) (described_in tables) origin.redo.0 answer.log) refl answer.says
     where

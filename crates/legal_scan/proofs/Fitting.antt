@@ -14,7 +14,8 @@ use Rattle.record_numbers.specs.Bytes.{TellsBytes}
 use Rattle.record_numbers.specs.Fits.{RecordFits}
 use Rattle.record_numbers.specs.Laws.{ToldNumbersFit}
 use Rattle.standby_model.specs.Archived.{segment_size, told_by}
-use Rattle.standby_model.specs.Log.{Described, Stands, end_of, link_after, typed_at, typed_of, unless_refused}
+use Rattle.wal_bodies.specs.Ends.{end_of}
+use Rattle.standby_model.specs.Log.{Described, Stands, link_after, typed_at, typed_of, unless_refused}
 
 typed_ok : (typed : Result Rec BodyFault) (rec : Rec) → unless_refused typed ≡ Ok rec → typed ≡ Ok rec
 typed_ok (Ok found) rec e = cc

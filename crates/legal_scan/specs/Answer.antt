@@ -16,15 +16,16 @@ use Rattle.row_model.specs.Rows.{IsRows}
 use Rattle.row_model.specs.Origins.{LogOrigin, committed_in, empty_table}
 use Rattle.row_model.specs.Multixacts.{multixacts}
 use Rattle.row_model.specs.LegalRows.{LegalLog}
-use Rattle.row_pages.specs.Pages.{is_in_block, values_of}
+use Rattle.row_pages.specs.Pages.{is_in_block, rows_of_versions}
 use Rattle.standby_core.specs.Replay.{ends_backup, refusal_of}
 use Rattle.standby_core.specs.Standby.{described_in}
 use Rattle.standby_model.specs.Archived.{told_by}
-use Rattle.standby_model.specs.Log.{IsLog, Stands, Stop, Ended, Refused, end_of}
+use Rattle.wal_bodies.specs.Ends.{end_of}
+use Rattle.standby_model.specs.Log.{IsLog, Stands, Stop, Ended, Refused}
 use Rattle.table_schema.specs.Description.{Description, locators}
 use Rattle.scan_model.specs.Run.{origin}
 use Rattle.scan_model.specs.Tables.{file_of, number_named, table_with}
-use Rattle.scan_model.specs.Scan.{Reply, LogRefused, NoTable, NotAdmitted, Scanned, Scans, Starts, Answers, is_ready, pages_from}
+use Rattle.scan_model.specs.Scan.{Answer, LogRefused, NoTable, NotAdmitted, Scanned, Scans, Starts, Answers, is_ready, pages_from}
 
 -- where the log begins the tables are empty and no transaction has a status; `top` leads from a subtransaction to its top
 -- transaction
@@ -50,10 +51,10 @@ admits log = has_backup_ended log && is_ready (state_of (transactions_of log))
 
 -- the rows of a block of the table with this number: their values, up to the first that is refused
 abbrev pub page_with : Description → ℕ → List Version → ℕ → BlockRows
-page_with tables table rows block = values_of (table_with tables table).columns (filter (is_in_block block) rows)
+page_with tables table rows block = rows_of_versions (table_with tables table).columns (filter (is_in_block block) rows)
 
 -- a scan at the log's end, of the table's rows, block by block
-pub record AnswersRows (tables : Description) (top : ℕ → ℕ) (log : List Rec) (table end : ℕ) (reply : Reply) : Type 0 where
+pub record AnswersLogRows (tables : Description) (top : ℕ → ℕ) (log : List Rec) (table end : ℕ) (reply : Answer) : Type 0 where
   pub rows : List Version
   pub are_rows :
       IsRows (multixacts log) (committed_in (origin_with top) log) (versions (origin_with top) (file_of tables table) log) rows
@@ -62,24 +63,24 @@ pub record AnswersRows (tables : Description) (top : ℕ → ℕ) (log : List Re
       (pages_from (page_with tables table rows) 0 (block_count (origin_with top) (file_of tables table) log))
 
 -- or why it is not admitted
-abbrev pub AnswersAdmitted : Bool → Description → (ℕ → ℕ) → List Rec → ℕ → ℕ → Reply → Type 0
-AnswersAdmitted true tables top log table end reply = AnswersRows tables top log table end reply
+abbrev pub AnswersAdmitted : Bool → Description → (ℕ → ℕ) → List Rec → ℕ → ℕ → Answer → Type 0
+AnswersAdmitted true tables top log table end reply = AnswersLogRows tables top log table end reply
 AnswersAdmitted false tables top log table end reply =
     reply ≡ NotAdmitted origin.redo.0 end (not (has_backup_ended log)) (state_of (transactions_of log))
 
 -- where the log ends, by the table
-abbrev pub AnswersTable : Description → (ℕ → ℕ) → List Rec → Option ℕ → Reply → Type 0
+abbrev pub AnswersTable : Description → (ℕ → ℕ) → List Rec → Option ℕ → Answer → Type 0
 AnswersTable tables top log None reply = reply ≡ NoTable
 AnswersTable tables top log (Some table) reply =
     AnswersAdmitted (admits log) tables top log table (end_of origin.redo.0 log) reply
 
 -- the next record is refused for its form or its body, or the log ends
-abbrev pub AnswersStop : Description → (ℕ → ℕ) → List ℕ → List Rec → Stop → Reply → Type 0
+abbrev pub AnswersStop : Description → (ℕ → ℕ) → List ℕ → List Rec → Stop → Answer → Type 0
 AnswersStop tables top name log (Refused what) reply = reply ≡ LogRefused (end_of origin.redo.0 log) (refusal_of what)
 AnswersStop tables top name log (Ended why) reply = AnswersTable tables top log (number_named tables name) reply
 
 -- the answer over the log that the files tell, where a primary with these tables could write each front of it
-pub record LegalAnswer (tables : Description) (top : ℕ → ℕ) (files : List ℕ → Option (List ℕ)) (name : List ℕ) (reply : Reply) : Type 0 where
+pub record LegalAnswer (tables : Description) (top : ℕ → ℕ) (files : List ℕ → Option (List ℕ)) (name : List ℕ) (reply : Answer) : Type 0 where
   pub log : List Rec
   pub stop : Stop
   pub is_log : IsLog (told_by files) (described_in tables) origin.redo.0 log stop
@@ -90,13 +91,13 @@ pub record LegalAnswer (tables : Description) (top : ℕ → ℕ) (files : List 
 abbrev pub LegalScan : Type 0
 LegalScan =
     (words : List (List ℕ)) (base : List ℕ → Option (List ℕ)) (tables : Description) (name : List ℕ)
-    → Starts words base (Scans tables name) → (top : ℕ → ℕ) (files : List ℕ → Option (List ℕ)) (reply : Reply)
+    → Starts words base (Scans tables name) → (top : ℕ → ℕ) (files : List ℕ → Option (List ℕ)) (reply : Answer)
     → HaveBytes (Some files) → IsLegal tables top files → Answers words base files reply
     → LegalAnswer tables top files name reply
 
 -- where the files tell a log that is legal over the tables that the base folder describes, the answer to words that are
 -- `scan` and a table is that
-abbrev pub WhereLegal : List (List ℕ) → (List ℕ → Option (List ℕ)) → (List ℕ → Option (List ℕ)) → (Reply → Type 0) → Type 0
+abbrev pub WhereLegal : List (List ℕ) → (List ℕ → Option (List ℕ)) → (List ℕ → Option (List ℕ)) → (Answer → Type 0) → Type 0
 WhereLegal words base files P =
     (top : ℕ → ℕ) (tables : Description) (name : List ℕ) → Starts words base (Scans tables name) → IsLegal tables top files
-    → (reply : Reply) × LegalAnswer tables top files name reply × P reply
+    → (reply : Answer) × LegalAnswer tables top files name reply × P reply

@@ -65,6 +65,6 @@ lent (Ok page) = Ok page.now
 lent (Err fault) = Err fault
 
 -- the same for a page that is lent for reading
-abbrev pub seen : Result (Bor (List ℕ)) PoolFault → Result (List ℕ) PoolFault
-seen (Ok page) = Ok page.now
-seen (Err fault) = Err fault
+abbrev pub lent_to_read : Result (Bor (List ℕ)) PoolFault → Result (List ℕ) PoolFault
+lent_to_read (Ok page) = Ok page.now
+lent_to_read (Err fault) = Err fault

@@ -1,3 +1,4 @@
 pub mod Content
 pub mod Held
 pub mod Lending
+pub mod Seen

@@ -28,7 +28,7 @@ pub struct Pool {
 }
 
 impl Pool {
-    ghost use Rattle.page_store.specs.Content.{content, table_count, page_answer, lent, seen};
+    ghost use Rattle.page_store.specs.Content.{content, table_count, page_answer, lent, lent_to_read};
     ghost use Rattle.page_store.specs.Held.{HasBlock, HasFresh, IsInitial};
     ghost use Rattle.page_store.specs.Lending.{Holds, LendsPage, LendsLook, LendsFresh};
 
@@ -97,7 +97,7 @@ impl Pool {
     pub fn look(&mut self, tag: Tag) -> Result<&HeapPage, PoolFault>
         requires { tag.table < table_count self.old }
         ensures* lends { sem 𝓛 (LendsLook self.entry) }
-        ensures answer { seen result ≡ page_answer (content self.old tag.table tag.block) }
+        ensures answer { lent_to_read result ≡ page_answer (content self.old tag.table tag.block) }
         ensures page { IfOk result (λ page. IsPage page.now) }
     {
         match self.check_page(tag) {

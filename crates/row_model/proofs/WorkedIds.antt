@@ -2,8 +2,8 @@
 use Rattle.std.proofs.Common.{◌≡◌, ℕ, ◌<◌, ◌≤◌, true, false, ◌==◌, ◌||◌, nat_lt, List, [], ◌∷◌, arith, refl, sym, inl, inr, subst}
 use Rattle.std.proofs.lemmas.Bool.{eq-eqb, eqb-true, false_from_ne_true, false≢true, le-ltb, lt-ltb, or_cases, or_from, or_left}
 use Rattle.known_assigned.specs.Ids.{is_among}
-use Rattle.transaction_model.specs.Transactions.{TransactionRecord, committed, ended, Live, seen}
-use Rattle.transaction_model.specs.LegalTransactions.{CommitRule, Legal, OnlineRule, OriginRule, RunningRule, before, greatest_next, last_redo, starts_at}
+use Rattle.transaction_model.specs.Transactions.{TransactionRecord, committed, ended, Live, named}
+use Rattle.transaction_model.specs.LegalTransactions.{CommitRule, Legal, OnlineRule, TransactionOriginRule, RunningRule, before, greatest_next, last_redo, starts_at}
 use Rattle.transaction_model.proofs.NoIds.{among_one, none_ended_at, nothing_head, nothing_rule, one_among}
 use Rattle.xact_redo.specs.TransactionsOf.{transaction_of, transactions_of}
 use Rattle.row_model.specs.WorkedRows.{insert_by_700, nothing_runs, online_checkpoint, update_by_701, worked_first, worked_log, worked_ids, worked_start}
@@ -12,7 +12,7 @@ none_ended : (x : ℕ) → 3 ≤ x → ended worked_ids.at x [] ≡ false
 unfolding ended
 none_ended x normal = none_ended_at x normal
 
-worked_rule : OriginRule worked_ids
+worked_rule : TransactionOriginRule worked_ids
 unfolding committed
 worked_rule =
     record {
@@ -36,7 +36,7 @@ unfolding ended transaction_of
 ended_at_running x low = or_left (nat_lt x 700) (ended worked_ids.at x []) (lt-ltb x 700 low)
 
 running_rule : RunningRule worked_ids (nothing_head 700 699) [] at_running
-unfolding seen greatest_next transaction_of
+unfolding named greatest_next transaction_of
 running_rule =
     nothing_rule worked_ids 700 699 at_running (omega arith)
     (record {
@@ -49,7 +49,7 @@ running_rule =
 
 -- at the checkpoint's redo nothing had been written
 online_rule : OnlineRule worked_ids 0x2000028 700 at_running (transactions_of (online_checkpoint ∷ nothing_runs ∷ []))
-unfolding before greatest_next last_redo seen starts_at transaction_of
+unfolding before greatest_next last_redo named starts_at transaction_of
 online_rule =
     record {
       is_start = refl;

@@ -15,7 +15,8 @@ use Rattle.heap_tuple.specs.Tuple.{is_lock_only, is_tuple, is_tuple_head, max_of
 use Rattle.heap_page.specs.Item.{with_item}
 use Rattle.heap_page.specs.Put.{put_answer, set_head_answer}
 use Rattle.heap_redo.specs.declared.fault.RedoFault.{RedoFault}
-use Rattle.heap_redo.specs.Redone.{View, grown, redone, redone_at, redone_block, view_with, with_seen}
+use Rattle.page_store.specs.Seen.{View}
+use Rattle.heap_redo.specs.Redone.{grown, redone, redone_at, redone_block, view_with, with_seen}
 use Rattle.transaction_model.specs.Transactions.{committed}
 use Rattle.heap_redo.specs.After.{after, after_change, applied, change_head, changed, changed_page, joined, put, put_listed, put_version, tuple_of, update, update_old, update_within}
 use Rattle.wal_bodies.specs.HeapKinds.{same_locator}

@@ -13,10 +13,11 @@ use Rattle.wal_bodies.specs.declared.types.RecKind.{RecKind}
 use Rattle.wal_bodies.specs.declared.types.RecKind.TheVariants.{Checkpoint}
 use Rattle.wal_bodies.specs.HeapKinds.{same_locator}
 use Rattle.heap_redo.specs.After.{applied}
-use Rattle.heap_redo.specs.Redone.{View, is_anew, is_left}
+use Rattle.page_store.specs.Seen.{View}
+use Rattle.heap_redo.specs.Redone.{is_anew, is_left}
 use Rattle.transaction_model.specs.Transactions.{Kind, Commit, Abort, Assignment, Running, Shutdown, Online, Other}
 use Rattle.transaction_model.specs.LegalTransactions.{Legal}
-use Rattle.xact_redo.specs.TransactionsOf.{is_shutdown, kind_of, transactions_of}
+use Rattle.xact_redo.specs.TransactionsOf.{at_shutdown, kind_of, transactions_of}
 use Rattle.row_model.specs.Versions.{Version, version_at}
 use Rattle.row_model.specs.Origins.{LogOrigin, IsLive}
 use Rattle.row_model.specs.Multixacts.{NewMultixact, NewMultixactRule, made_by}
@@ -140,7 +141,7 @@ pub record LegalTable (o : LogOrigin) (log : List Rec) (table : Locator) : Type 
 -- a shutdown checkpoint's redo is its own start
 abbrev pub is_redo_at : RecordHead → ℕ → RecKind → Bool
 is_redo_at head start (Checkpoint redo timeline previous writes next multi member oldest active) =
-    if is_shutdown head then redo.0 == start else true
+    if at_shutdown head then redo.0 == start else true
 is_redo_at head start _ = true
 
 abbrev pub is_redo_own : Rec → Bool

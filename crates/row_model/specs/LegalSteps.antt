@@ -8,7 +8,8 @@ use Rattle.pg_types.specs.declared.names.Locator.{Locator}
 use Rattle.wal_bodies.specs.declared.types.Rec.{Rec}
 use Rattle.wal_bodies.specs.declared.types.RecKind.{RecKind}
 use Rattle.heap_redo.specs.TupleHeads.{head_bytes, head_of}
-use Rattle.heap_tuple.specs.Tuple.{xmin_of, infomask_of, has_bits, max_of}
+use Rattle.pg_types.specs.Numbers.{has_bits}
+use Rattle.heap_tuple.specs.Tuple.{xmin_of, infomask_of, max_of}
 use Rattle.heap_tuple.specs.declared.tuple_view.MaxOf.{MaxOf}
 use Rattle.heap_page.specs.Put.{with_head}
 use Rattle.tuple_visibility.specs.Visible.{xmin_marks}

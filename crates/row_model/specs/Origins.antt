@@ -3,9 +3,9 @@
 use Rattle.std.specs.Prelude.{◌≡◌, ℕ, Bool, true, false, List, []}
 use Rattle.pg_types.specs.declared.names.Locator.{Locator}
 use Rattle.wal_bodies.specs.declared.types.Rec.{Rec}
-use Rattle.heap_redo.specs.Redone.{Seen, absent}
+use Rattle.page_store.specs.Seen.{Seen, absent}
 use Rattle.transaction_model.specs.Transactions.{Live, committed, ended}
-use Rattle.transaction_model.specs.LegalTransactions.{Origin}
+use Rattle.transaction_model.specs.LegalTransactions.{TransactionOrigin}
 use Rattle.xact_redo.specs.TransactionsOf.{transactions_of}
 use Rattle.row_model.specs.Versions.{Version}
 
@@ -21,7 +21,7 @@ empty_table = record { versions = []; count = 0; blocks = λ (block : ℕ). abse
 -- where a log begins, which is the redo position of a base backup: the statuses of transactions and their tree, and
 -- each table by its file
 pub record LogOrigin : Type 0 where
-  pub transactions : Origin
+  pub transactions : TransactionOrigin
   pub tables : Locator → TableOrigin
 
 -- each table is empty there, and no transaction has a status

@@ -9,7 +9,7 @@ use Rattle.wal_bodies.specs.declared.types.RecBlock.{RecBlock}
 use Rattle.wal_bodies.specs.declared.types.Rec.{Rec}
 use Rattle.wal_bodies.specs.declared.types.RecKind.{RecKind}
 use Rattle.wal_bodies.specs.declared.types.RecKind.TheVariants.{Insert, Delete, Update, Lock, MultiInsert, LockUpdated}
-use Rattle.wal_bodies.specs.Fields.{has}
+use Rattle.pg_types.specs.Numbers.{has_bits}
 use Rattle.heap_redo.specs.TupleHeads.{marked_mask}
 use Rattle.wal_bodies.specs.HeapKinds.{same_locator}
 use Rattle.heap_redo.specs.After.{applied, joined, number_of, page_of_image, tuple_of, user_data}
@@ -19,7 +19,8 @@ use Rattle.heap_tuple.specs.declared.tuple_view.MaxOf.TheVariants.{None as NoDel
 use Rattle.heap_page.specs.Item.{Item, unused, normal, redirect, dead, numbered, tuple_in}
 use Rattle.heap_page.specs.Page.{items_of}
 use Rattle.heap_redo.specs.declared.fault.RedoFault.{RedoFault}
-use Rattle.heap_redo.specs.Redone.{Seen, absent, View, is_left, redone, view_outcome}
+use Rattle.page_store.specs.Seen.{Seen, absent, View}
+use Rattle.heap_redo.specs.Redone.{is_left, redone, view_outcome}
 use Rattle.row_model.specs.Versions.{Version, RowStep, Born, Deleter, Undone, version_at, with_steps}
 use Rattle.row_model.specs.Origins.{LogOrigin}
 
@@ -28,7 +29,7 @@ use Rattle.row_model.specs.Origins.{LogOrigin}
 unfoldable pub deleter_of_mark : ℕ → ℕ → MaxOf
 deleter_of_mark xmax bits =
     if is_lock_only (marked_mask bits 0) || (xmax == 0) then NoDeleter
-    else if has bits 1 then Multi xmax
+    else if has_bits bits 1 then Multi xmax
     else DeletedBy (record { 0 = xmax })
 
 -- the items that an image shows
@@ -84,7 +85,7 @@ unfoldable pub own_steps : Rec → RecBlock → RecKind → List Version → Lis
 own_steps rec block (Insert line flags) vs = births rec block (applied block.image) (line ∷ [])
 own_steps rec block (MultiInsert flags lines) vs = births rec block (applied block.image) lines
 own_steps rec block (Delete xmax line bits flags) vs =
-    if has flags 0x08 then Undone block.block line ∷ [] else Deleter block.block line (deleter_of_mark xmax.0 bits) ∷ []
+    if has_bits flags 0x08 then Undone block.block line ∷ [] else Deleter block.block line (deleter_of_mark xmax.0 bits) ∷ []
 own_steps rec block (Update old_xmax old_line old_bits flags new_xmax new_line) vs =
     update_steps rec block old_xmax.0 old_line old_bits new_xmax.0 new_line (number_of 0 rec.blocks) (number_of 1 rec.blocks) vs
 own_steps rec block (Lock xmax line bits flags) vs = Deleter block.block line (deleter_of_mark xmax.0 bits) ∷ []

@@ -1,7 +1,8 @@
 -- What a tuple shows of a version of a row.
 -- Sources: htup_details.h, heapam_visibility.c (SetHintBits).
 use Rattle.std.specs.Prelude.{◌≡◌, ℕ, true, false, List, drop, Option, Some, None}
-use Rattle.heap_tuple.specs.Tuple.{xmin_of, infomask_of, columns_of, has_bits, max_of}
+use Rattle.pg_types.specs.Numbers.{has_bits}
+use Rattle.heap_tuple.specs.Tuple.{xmin_of, infomask_of, columns_of, max_of}
 use Rattle.heap_tuple.specs.declared.tuple_view.MaxOf.{MaxOf}
 use Rattle.heap_page.specs.Item.{Item, normal, numbered, is_normal}
 use Rattle.tuple_visibility.specs.Visible.{xmin_marks}

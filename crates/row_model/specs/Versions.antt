@@ -2,7 +2,8 @@
 -- Sources: heapam_xlog.h, htup_details.h, heapam.c (heap_insert, heap_update, heap_delete, heap_lock_tuple,
 -- heap_freeze_execute_prepared), pruneheap.c (heap_page_prune).
 use Rattle.std.specs.Prelude.{ℕ, ◌==◌, Bool, true, false, ◌&&◌, ◌||◌, bit_and, List, [], ◌∷◌, Option, Some, None, map, if◌then◌else◌}
-use Rattle.heap_tuple.specs.Tuple.{has_bits, is_lock_only, max_of, xmin_of}
+use Rattle.pg_types.specs.Numbers.{has_bits}
+use Rattle.heap_tuple.specs.Tuple.{is_lock_only, max_of, xmin_of}
 use Rattle.heap_tuple.specs.declared.tuple_view.MaxOf.{MaxOf}
 use Rattle.heap_tuple.specs.declared.tuple_view.MaxOf.TheVariants.{None as NoDeleter, Xid as DeletedBy, Multi}
 use Rattle.tuple_visibility.specs.Visible.{xmin_marks}

@@ -9,7 +9,7 @@ use Rattle.wal_bodies.specs.declared.types.Rec.{Rec}
 use Rattle.wal_bodies.specs.declared.types.RecKind.{RecKind}
 use Rattle.wal_bodies.specs.declared.types.RecKind.TheVariants.{Checkpoint, BackupEnd, Ended, Running, Insert, Update}
 use Rattle.heap_tuple.specs.declared.tuple_view.MaxOf.TheVariants.{None as NoDeleter}
-use Rattle.transaction_model.specs.LegalTransactions.{Origin}
+use Rattle.transaction_model.specs.LegalTransactions.{TransactionOrigin}
 use Rattle.row_model.specs.Versions.{Version, By}
 use Rattle.row_model.specs.Origins.{BeginsEmpty, LogOrigin, committed_in, empty_table}
 use Rattle.row_model.specs.Multixacts.{multixacts}
@@ -19,7 +19,7 @@ use Rattle.record_numbers.specs.Fits.{RecordFits}
 use Rattle.row_model.specs.LegalRows.{LegalLog}
 
 -- nothing has committed or aborted, and each id is a top transaction
-abbrev pub worked_ids : Origin
+abbrev pub worked_ids : TransactionOrigin
 worked_ids =
     record { at = record { is_committed = λ (x : ℕ). false; is_aborted = λ (x : ℕ). false }; top = λ (x : ℕ). x }
 

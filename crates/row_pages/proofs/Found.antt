@@ -5,7 +5,7 @@ use Rattle.std.proofs.lemmas.Bool.{cases_Bool, cases_eq, cond_both, ne_eqb, eq-e
 use Rattle.std.proofs.lemmas.List.{append-nil}
 use Rattle.std.proofs.lemmas.List.Elements.{filter-append}
 use Rattle.heap_page.specs.Item.{Item}
-use Rattle.heap_redo.specs.Redone.{Seen, absent, bad_block, seen_page}
+use Rattle.page_store.specs.Seen.{Seen, absent, bad_block, seen_page}
 use Rattle.row_model.specs.Versions.{Version, is_at, version_at}
 use Rattle.row_model.specs.Shown.{count_at}
 use Rattle.row_model.specs.Rows.{IsBefore, IsBeforeAll, IsInPlaceOrder}

@@ -6,7 +6,7 @@ use Rattle.std.proofs.lemmas.List.Elements.{All-head, All-tail}
 use Rattle.pg_types.specs.declared.status.Unknown.{Unknown}
 use Rattle.heap_tuple.specs.declared.cell.Column.{Column}
 use Rattle.heap_page.specs.Item.{Item, unused}
-use Rattle.heap_redo.specs.Redone.{Seen, absent, bad_block, seen_page}
+use Rattle.page_store.specs.Seen.{Seen, absent, bad_block, seen_page}
 use Rattle.wal_bodies.specs.declared.types.Rec.{Rec}
 use Rattle.row_model.specs.Origins.{LogOrigin, committed_in}
 use Rattle.row_model.specs.Versions.{Version, is_at, version_at}
@@ -14,7 +14,7 @@ use Rattle.row_model.specs.Rows.{IsRows}
 use Rattle.row_model.specs.Multixacts.{multixacts}
 use Rattle.row_model.specs.Shows.{ShowsPlace, ShowsBlock}
 use Rattle.row_model.specs.Shown.{IsLost, ShowsTable, ShowsSeen}
-use Rattle.row_pages.specs.Pages.{is_row_in, values_of, SeesThem, AreScanned, ScanGivesRows}
+use Rattle.row_pages.specs.Pages.{is_row_in, rows_of_versions, SeesThem, AreScanned, ScanGivesRows}
 use Rattle.row_pages.proofs.Each.{Each, Stands, each-weaker}
 use Rattle.row_pages.proofs.Places.{kept, first_of_two, at_head, at_none, version_at-append, version_at-filter, none_where, found_at, found_holds, from_place, off_block, off_line, apart-filter}
 use Rattle.row_pages.proofs.Permuted.{HaveSame, permuted}
@@ -241,7 +241,7 @@ are_scanned origin log vs count blocks columns sees table all =
       each =
           λ block below.
           block_scanned origin log vs count blocks columns sees block below table all
-          ∙ ap (values_of columns) (sym (block_filtered (is_row_in origin log) vs blocks count block below));
+          ∙ ap (rows_of_versions columns) (sym (block_filtered (is_row_in origin log) vs blocks count block below));
     }
 
 pub scan_gives_rows_holds : ScanGivesRows

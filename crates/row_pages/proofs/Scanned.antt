@@ -7,14 +7,14 @@ use Rattle.heap_tuple.specs.Values.{RowRefusal, row_of}
 use Rattle.heap_tuple.specs.declared.cell.Cell.{Cell}
 use Rattle.heap_tuple.specs.declared.cell.Column.{Column}
 use Rattle.heap_page.specs.Item.{Item, unused, normal, redirect, dead, is_normal, item_in}
-use Rattle.heap_redo.specs.Redone.{Seen, absent, bad_block, seen_page}
+use Rattle.page_store.specs.Seen.{Seen, absent, bad_block, seen_page}
 use Rattle.seq_scan.specs.BlockRows.{BlockRows, with_values, with_tuple, rows_from, block_rows}
 use Rattle.wal_bodies.specs.declared.types.Rec.{Rec}
 use Rattle.row_model.specs.Origins.{LogOrigin}
 use Rattle.row_model.specs.Versions.{Version, version_at}
 use Rattle.row_model.specs.Shows.{ShowsPlace, ShowsBlock}
 use Rattle.row_model.specs.Shown.{IsSound, ShowsTable, ShowsSeen}
-use Rattle.row_pages.specs.Pages.{is_row_in, values_of, SeesThem}
+use Rattle.row_pages.specs.Pages.{is_row_in, rows_of_versions, SeesThem}
 use Rattle.row_pages.proofs.SameRow.{row_same}
 use Rattle.row_pages.proofs.Places.{found_at}
 use Rattle.row_pages.proofs.Found.{row_in, rows_on, rows_in}
@@ -41,12 +41,12 @@ read columns sees line tuple items = refl
 valued :
     (columns : List Column) (test : Version → Bool) (line : ℕ) (tuple : List ℕ) (v : Version) (more : List Version) (t : Bool)
     → v.line ≡ line → row_of tuple columns ≡ row_of v.tuple columns
-    → with_tuple columns line tuple (Ok t) (values_of columns more)
-    ≡ values_of columns (cond t (v ∷ []) [] ++ more)
-unfolding values_of
+    → with_tuple columns line tuple (Ok t) (rows_of_versions columns more)
+    ≡ rows_of_versions columns (cond t (v ∷ []) [] ++ more)
+unfolding rows_of_versions
 valued columns test line tuple v more true here row =
-    ap (λ (n : ℕ). with_values n (row_of tuple columns) (values_of columns more)) (sym here)
-    ∙ ap (λ (r : Result (List Cell) RowRefusal). with_values v.line r (values_of columns more)) row
+    ap (λ (n : ℕ). with_values n (row_of tuple columns) (rows_of_versions columns more)) (sym here)
+    ∙ ap (λ (r : Result (List Cell) RowRefusal). with_values v.line r (rows_of_versions columns more)) row
 valued columns test line tuple v more false here row = refl
 
 -- what is known of the versions of a table that its blocks show, in one block from a line on
@@ -73,8 +73,8 @@ first_line :
     (sees : List ℕ → Result Bool Unknown) (line : ℕ) (o : Option Version) (item : Item) (items : List Item) (more : List Version)
     → SeesThem origin log sees → ShowsPlace origin log o item
     → ((v : Version) → o ≡ Some v → (v.line ≡ line) × IsSound origin log v × (23 ≤ hoff_of v.tuple))
-    → rows_from columns sees (line + 1) items ≡ values_of columns more
-    → rows_from columns sees line (item ∷ items) ≡ values_of columns (row_in (is_row_in origin log) o ++ more)
+    → rows_from columns sees (line + 1) items ≡ rows_of_versions columns more
+    → rows_from columns sees line (item ∷ items) ≡ rows_of_versions columns (row_in (is_row_in origin log) o ++ more)
 first_line origin log columns sees line None item items more seen shows known rest =
     skipped columns sees line item items shows ∙ rest
 first_line origin log columns sees line (Some v) item items more seen (tuple, is, shown) known rest =
@@ -82,7 +82,7 @@ first_line origin log columns sees line (Some v) item items more seen (tuple, is
     ap (λ (i : Item). rows_from columns sees line (i ∷ items)) is
     ∙ read columns sees line tuple items
     ∙ ap (λ (r : BlockRows). with_tuple columns line tuple (sees tuple) r) rest
-    ∙ ap (λ (r : Result Bool Unknown). with_tuple columns line tuple r (values_of columns more)) (seen v tuple shown sound)
+    ∙ ap (λ (r : Result Bool Unknown). with_tuple columns line tuple r (rows_of_versions columns more)) (seen v tuple shown sound)
     ∙ valued columns (is_row_in origin log) line tuple v more (is_row_in origin log v) here
     (row_same tuple v.tuple columns shown.row behind)
 
@@ -97,8 +97,8 @@ pub lines_scanned :
     (origin : LogOrigin) (log : List Rec) (vs : List Version) (columns : List Column)
     (sees : List ℕ → Result Bool Unknown) (block line : ℕ) (items : List Item) → SeesThem origin log sees
     → ShowsLines origin log vs block line items
-    → rows_from columns sees line items ≡ values_of columns (rows_on (is_row_in origin log) vs block line items)
-unfolding rows_on rows_from values_of
+    → rows_from columns sees line items ≡ rows_of_versions columns (rows_on (is_row_in origin log) vs block line items)
+unfolding rows_on rows_from rows_of_versions
 lines_scanned origin log vs columns sees block line [] seen shows = refl
 lines_scanned origin log vs columns sees block line (item ∷ items) seen shows =
     first_line origin log columns sees line (version_at block line vs) item items
@@ -126,7 +126,7 @@ seen_scanned :
     (origin : LogOrigin) (log : List Rec) (vs : List Version) (count : ℕ) (blocks : ℕ → Seen)
     (columns : List Column) (sees : List ℕ → Result Bool Unknown) (block : ℕ) (seen : Seen) → block < count
     → ShowsTable origin log vs count blocks → ShowsSeen origin log vs count block seen → SeesThem origin log sees
-    → block_rows columns sees seen ≡ values_of columns (rows_in (is_row_in origin log) vs block seen)
+    → block_rows columns sees seen ≡ rows_of_versions columns (rows_in (is_row_in origin log) vs block seen)
 unfolding block_rows rows_in
 seen_scanned origin log vs count blocks columns sees block absent below table shows all =
     absurd (omega arith)
@@ -139,6 +139,6 @@ pub block_scanned :
     (origin : LogOrigin) (log : List Rec) (vs : List Version) (count : ℕ) (blocks : ℕ → Seen)
     (columns : List Column) (sees : List ℕ → Result Bool Unknown) (block : ℕ) → block < count
     → ShowsTable origin log vs count blocks → SeesThem origin log sees
-    → block_rows columns sees (blocks block) ≡ values_of columns (rows_in (is_row_in origin log) vs block (blocks block))
+    → block_rows columns sees (blocks block) ≡ rows_of_versions columns (rows_in (is_row_in origin log) vs block (blocks block))
 block_scanned origin log vs count blocks columns sees block below table all =
     seen_scanned origin log vs count blocks columns sees block (blocks block) below table (table.shows block) all

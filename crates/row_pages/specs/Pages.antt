@@ -4,7 +4,7 @@ use Rattle.pg_types.specs.declared.status.Unknown.{Unknown}
 use Rattle.heap_tuple.specs.Values.{row_of}
 use Rattle.heap_tuple.specs.declared.cell.Column.{Column}
 use Rattle.wal_bodies.specs.declared.types.Rec.{Rec}
-use Rattle.heap_redo.specs.Redone.{Seen}
+use Rattle.page_store.specs.Seen.{Seen}
 use Rattle.seq_scan.specs.BlockRows.{BlockRows, Whole, block_rows, ends, with_values}
 use Rattle.row_model.specs.Versions.{Version}
 use Rattle.row_model.specs.Origins.{LogOrigin, committed_in}
@@ -14,9 +14,9 @@ use Rattle.row_model.specs.Shows.{Shows}
 use Rattle.row_model.specs.Shown.{IsSound, ShowsTable}
 
 -- the values of rows, one after the other, up to the first that is refused
-unfoldable pub values_of : List Column → List Version → BlockRows
-values_of columns [] = ends Whole
-values_of columns (v ∷ rows) = with_values v.line (row_of v.tuple columns) (values_of columns rows)
+unfoldable pub rows_of_versions : List Column → List Version → BlockRows
+rows_of_versions columns [] = ends Whole
+rows_of_versions columns (v ∷ rows) = with_values v.line (row_of v.tuple columns) (rows_of_versions columns rows)
 
 abbrev pub is_in_block : ℕ → Version → Bool
 is_in_block block v = v.block == block
@@ -32,7 +32,7 @@ SeesThem o log sees =
 
 -- what a scan gives of each block is the values of the table's rows there
 pub record AreScanned (columns : List Column) (sees : List ℕ → Result Bool Unknown) (count : ℕ) (blocks : ℕ → Seen) (rows : List Version) : Type 0 where
-  pub each : (block : ℕ) → block < count → block_rows columns sees (blocks block) ≡ values_of columns (filter (is_in_block block) rows)
+  pub each : (block : ℕ) → block < count → block_rows columns sees (blocks block) ≡ rows_of_versions columns (filter (is_in_block block) rows)
 
 -- where the blocks show the versions and the snapshot sees the rows, a scan gives the rows, block by block
 abbrev pub ScanGivesRows : Type 0

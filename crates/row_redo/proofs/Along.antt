@@ -6,7 +6,8 @@ use Rattle.pg_types.specs.declared.names.Locator.{Locator}
 use Rattle.heap_page.specs.Law.{TuplesKeepRule, ZerosHaveNone}
 use Rattle.wal_bodies.specs.declared.types.Rec.{Rec}
 use Rattle.heap_redo.specs.declared.fault.RedoFault.{RedoFault}
-use Rattle.heap_redo.specs.Redone.{Seen, absent, View, Outcome, redone, table_of, view_outcome}
+use Rattle.page_store.specs.Seen.{Seen, absent, View}
+use Rattle.heap_redo.specs.Redone.{Outcome, redone, table_of, view_outcome}
 use Rattle.transaction_model.specs.LegalTransactions.{Legal}
 use Rattle.xact_redo.specs.TransactionsOf.{transactions_of}
 use Rattle.row_model.specs.Versions.{RowStep, Version, with_steps, version_at}
@@ -14,7 +15,8 @@ use Rattle.row_model.specs.Origins.{BeginsEmpty, LogOrigin, TableOrigin}
 use Rattle.row_model.specs.RowSteps.{block_count, blocks_of, count_with, steps_of, versions, view_after, view_before, view_with_record}
 use Rattle.record_numbers.specs.Fits.{RecordFits}
 use Rattle.row_model.specs.LegalRows.{LegalAlong, TableRule, are_apart}
-use Rattle.row_redo.specs.Shown.{BlocksShowVersions, Rises, last_end}
+use Rattle.wal_bodies.specs.Ends.{Rises, end_of}
+use Rattle.row_redo.specs.Shown.{BlocksShowVersions}
 use Rattle.row_redo.proofs.Apart.{all_lost_later, all_sound_later, steps_apart, steps_lost, steps_sound}
 use Rattle.row_redo.proofs.Rules.{StepsRule, rules_of}
 use Rattle.row_redo.proofs.Tables.{legal_rows}
@@ -64,12 +66,12 @@ module _ (keep : TuplesKeepRule) (no_items : ZerosHaveNone) (from : LogOrigin) (
   one_more :
       (rec : Rec) (older : List Rec) (was view : View) → Legal from.transactions (transactions_of (rec ∷ older)) → RecordFits rec
       → are_apart rec.blocks ≡ true → TableRule from locator older rec
-      → Standing from older (versions from locator older) (block_count from locator older) (last_end older) (was table)
-      → redone rec known rec.blocks was ≡ (view, Ok tt) → last_end older < rec.end.0
+      → Standing from older (versions from locator older) (block_count from locator older) (end_of 0 older) (was table)
+      → redone rec known rec.blocks was ≡ (view, Ok tt) → end_of 0 older < rec.end.0
       → Standing from (rec ∷ older) (versions from locator (rec ∷ older)) (block_count from locator (rec ∷ older)) rec.end.0 (view table)
   unfolding versions block_count
   one_more rec older was view legal fits apart rule standing done less =
-      let before : ℕ = last_end older in
+      let before : ℕ = end_of 0 older in
       let count : ℕ = block_count from locator older in
       let vs : List Version = versions from locator older in
       let steps : List RowStep = steps_of rec locator count vs in
@@ -94,8 +96,8 @@ module _ (keep : TuplesKeepRule) (no_items : ZerosHaveNone) (from : LogOrigin) (
   -- all records
   along :
       (log : List Rec) (view : View) → Legal from.transactions (transactions_of log) → All (λ (r : Rec). are_apart r.blocks ≡ true) log
-      → All RecordFits log → Rises log → LegalAlong from locator log → view_after from known log ≡ Ok view
-      → Standing from log (versions from locator log) (block_count from locator log) (last_end log) (view table)
+      → All RecordFits log → Rises 0 log → LegalAlong from locator log → view_after from known log ≡ Ok view
+      → Standing from log (versions from locator log) (block_count from locator log) (end_of 0 log) (view table)
   unfolding Legal versions block_count view_after
   along [] view legal apart fits rises rules done =
       let same : view_before from known ≡ view = cc in
@@ -112,6 +114,6 @@ module _ (keep : TuplesKeepRule) (no_items : ZerosHaveNone) (from : LogOrigin) (
 
 pub blocks_show : TuplesKeepRule → ZerosHaveNone → BlocksShowVersions
 blocks_show keep no_items from known log view table locator here empty legal rises fits done =
-    standing_shows from log (versions from locator log) (block_count from locator log) (last_end log) (view table)
+    standing_shows from log (versions from locator log) (block_count from locator log) (end_of 0 log) (view table)
     (along keep no_items from empty known locator table here log view legal.transactions legal.apart fits rises
     (legal_rows known locator table here from log legal.rows).along done)

@@ -3,8 +3,8 @@ use Rattle.std.proofs.Common.{◌≡◌, ℕ, ◌-◌, ◌%◌, ◌^◌, ◌<◌
 use Rattle.std.proofs.lemmas.Nat.{and_assoc, and_or_apart, and_le_r, and_mask, or_lt}
 use Rattle.std.specs.Int.Bits.{and_zero_r}
 use Rattle.std.proofs.lemmas.Nat.Bits.{bit_at_and, bit_at_or, same_from_bits_below}
-use Rattle.heap_tuple.specs.Tuple.{has_bits, is_lock_only}
-use Rattle.wal_bodies.specs.Fields.{has}
+use Rattle.heap_tuple.specs.Tuple.{is_lock_only}
+use Rattle.pg_types.specs.Numbers.{has_bits}
 use Rattle.heap_redo.specs.TupleHeads.{without, set_for, marked_mask, marked_mask2}
 
 -- the bits n of an or are those of both
@@ -24,14 +24,14 @@ and_or_both n a m h =
 
 -- a bit that a record sets is none of the bits n, where its flag is none
 set-apart : (bits bit flag n : ℕ) → bit_and flag n ≡ 0 → bit_and (set_for bits bit flag) n ≡ 0
-set-apart bits bit flag n h = by_test (has bits bit)
+set-apart bits bit flag n h = by_test (has_bits bits bit)
   where
     by_test : (b : Bool) → bit_and (if b then flag else 0) n ≡ 0
     by_test true = h
     by_test false = refl
 
 set-small : (bits bit flag : ℕ) → flag < 2 ^ 16 → set_for bits bit flag < 2 ^ 16
-set-small bits bit flag h = by_test (has bits bit)
+set-small bits bit flag h = by_test (has_bits bits bit)
   where
     by_test : (b : Bool) → (if b then flag else 0) < 2 ^ 16
     by_test true = h
@@ -94,7 +94,7 @@ mark-lock_only bits mask =
     let b = mark-sets bits mask 0x1050 (omega arith) refl in
     cc
 
-pub mark-multi : (bits mask : ℕ) → has_bits (marked_mask bits mask) 0x1000 ≡ has bits 1
+pub mark-multi : (bits mask : ℕ) → has_bits (marked_mask bits mask) 0x1000 ≡ has_bits bits 1
 unfolding marked_mask
 mark-multi bits mask =
     let f1 = set_for bits 1 0x1000 in
@@ -107,7 +107,7 @@ mark-multi bits mask =
     ∙ and_or_apart 0x1000 (bit_or m f1) f2 (set-apart bits 2 0x0080 0x1000 refl)
     ∙ and_or_both 0x1000 m f1 (omega arith)
     ∙ ap (λ x. bit_or x (bit_and f1 0x1000)) (and_assoc 0x1000 mask 0x232F ∙ and_zero_r mask) in
-    ap (λ n. not (n == 0)) spread ∙ by_test (has bits 1)
+    ap (λ n. not (n == 0)) spread ∙ by_test (has_bits bits 1)
   where
     by_test : (b : Bool) → not (bit_or 0 (bit_and (if b then 0x1000 else 0) 0x1000) == 0) ≡ b
     by_test true = refl

@@ -11,7 +11,7 @@ use Rattle.wal_bodies.specs.declared.types.RecBlock.{RecBlock}
 use Rattle.wal_bodies.specs.declared.types.Rec.{Rec}
 use Rattle.wal_bodies.specs.declared.types.RecKind.{RecKind}
 use Rattle.wal_bodies.specs.declared.types.RecKind.TheVariants.{Checkpoint, BackupEnd, Parameters, FullPageWrites, Images, Overwrite, Ended, Running, Insert, Delete, Update, Confirm, Lock, MultiInsert, LockUpdated, Other}
-use Rattle.wal_bodies.specs.Fields.{has}
+use Rattle.pg_types.specs.Numbers.{has_bits}
 use Rattle.heap_redo.specs.TupleHeads.{Head, marked, deleted, replaced, locked}
 use Rattle.heap_redo.specs.After.{BlockRefusal, no_tuple, ◌>>=◌, applied, put, put_listed, put_version, change_head, tuple_of, joined, user_data, is_short, update_old, update_within, update, number_of, changed, new_head}
 use Rattle.row_model.specs.Versions.{Version, RowStep, Born, Deleter, Undone, version_at, with_step, with_steps}
@@ -176,7 +176,7 @@ module _ (from : LogOrigin) (log : List Rec) (vs : List Version) (rec : Rec) (bl
   head-changed line xmax bits f small marks e = deleter-shown from log vs block.block line f xmax bits items after small marks shown.1 shown.0 e
 
   deletion-shown :
-      (xmax line bits flags : ℕ) (super : Bool) → xmax < 2 ^ 32 → has flags 0x08 ≡ super
+      (xmax line bits flags : ℕ) (super : Bool) → xmax < 2 ^ 32 → has_bits flags 0x08 ≡ super
       → StepsRule from log vs (if super then Undone block.block line ∷ [] else Deleter block.block line (deleter_of_mark xmax bits) ∷ [])
       → change_head line (λ head. deleted xmax bits flags block.block line head) items ≡ Ok after
       → Shown from log (with_steps vs (if super then Undone block.block line ∷ [] else Deleter block.block line (deleter_of_mark xmax bits) ∷ [])) block.block after
@@ -229,7 +229,7 @@ module _ (from : LogOrigin) (log : List Rec) (vs : List Version) (rec : Rec) (bl
   unfolding own_steps changed with_steps
   kind-shown (Insert line flags) f rule e = births-shown (line ∷ []) e rule
   kind-shown (MultiInsert flags lines) f rule e = births-shown lines e rule
-  kind-shown (Delete xmax line bits flags) f rule e = deletion-shown xmax.0 line bits flags (has flags 0x08) f.0 refl rule e
+  kind-shown (Delete xmax line bits flags) f rule e = deletion-shown xmax.0 line bits flags (has_bits flags 0x08) f.0 refl rule e
   kind-shown (Update old_xmax old_line old_bits flags new_xmax new_line) f rule e =
       update-shown old_xmax.0 old_line old_bits new_xmax.0 new_line (number_of 0 rec.blocks) (number_of 1 rec.blocks) f.0 rule e
   kind-shown (Lock xmax line bits flags) f rule e =

@@ -8,10 +8,9 @@ use Rattle.std.proofs.lemmas.List.Elements.{All-append, All-cons, All-nil, All-d
 use Rattle.std.proofs.lemmas.Nat.{or_lt, and_le_l}
 use Rattle.byteorder.specs.Endian.{little_bytes}
 use Rattle.byteorder.specs.Numbers.{little_number-reads_back, little_from-lt}
-use Rattle.pg_types.specs.Numbers.{number_at}
+use Rattle.pg_types.specs.Numbers.{number_at, has_bits}
 use Rattle.heap_tuple.specs.Tuple.{IsTuple, is_tuple, is_tuple_head, xmin_of, xmax_of, infomask_of, infomask2_of, hoff_of, is_lock_only}
 use Rattle.heap_tuple.proofs.SameTuples.{same_hoff}
-use Rattle.wal_bodies.specs.Fields.{has}
 use Rattle.heap_redo.specs.TupleHeads.{Head, head_of, head_bytes, marked_mask, marked, pointing_to, hot, pointing_after_delete, deleted, replaced, locked}
 use Rattle.heap_redo.specs.After.{user_data}
 use Rattle.record_numbers.specs.Fits.{AreBytes}
@@ -199,7 +198,7 @@ marks-locked xmax bits block line head = by_test (is_lock_only (marked xmax bits
 marks-after_delete :
     (xmin xmax bits flags block line : ℕ) (before after : Head) → Marks xmin xmax bits before after
     → Marks xmin xmax bits before (pointing_after_delete flags block line after)
-marks-after_delete xmin xmax bits flags block line before after m = by_test (has flags 0x10)
+marks-after_delete xmin xmax bits flags block line before after m = by_test (has_bits flags 0x10)
   where
     by_test : (b : Bool) → Marks xmin xmax bits before (if b then pointing_to 0xFFFFFFFF 0xFFFD after else pointing_to block line after)
     by_test true = marks-pointing xmin xmax bits 0xFFFFFFFF 0xFFFD before after m
@@ -207,7 +206,7 @@ marks-after_delete xmin xmax bits flags block line before after m = by_test (has
 
 -- a deletion marks as any, but one that takes an insertion back leaves no inserter, and xmax as it was
 pub marks-deleted :
-    (xmax bits flags block line : ℕ) (head : Head) → has flags 0x08 ≡ false
+    (xmax bits flags block line : ℕ) (head : Head) → has_bits flags 0x08 ≡ false
     → Marks head.xmin xmax bits head (deleted xmax bits flags block line head)
 unfolding deleted
 marks-deleted xmax bits flags block line head e =
@@ -215,7 +214,7 @@ marks-deleted xmax bits flags block line head e =
     (marks-hot head.xmin xmax bits false head (marked xmax bits head) (marks-marked xmax bits head)))
 
 pub marks-undone :
-    (xmax bits flags block line : ℕ) (head : Head) → has flags 0x08 ≡ true
+    (xmax bits flags block line : ℕ) (head : Head) → has_bits flags 0x08 ≡ true
     → Marks 0 head.xmax bits head (deleted xmax bits flags block line head)
 unfolding deleted
 marks-undone xmax bits flags block line head e =

@@ -6,7 +6,7 @@ use Rattle.heap_tuple.specs.declared.tuple_view.MaxOf.{MaxOf}
 use Rattle.heap_tuple.specs.declared.tuple_view.MaxOf.TheVariants.{None as NoDeleter, Xid as DeletedBy, Multi}
 use Rattle.heap_page.specs.Item.{Item, numbered}
 use Rattle.transaction_model.specs.Transactions.{Kind, Commit, Abort, Assignment, Running, Shutdown, Online, Other, TransactionRecord, Statuses, commits, ends, committed, ended, Live}
-use Rattle.transaction_model.specs.LegalTransactions.{Origin, RuleOf, Legal}
+use Rattle.transaction_model.specs.LegalTransactions.{TransactionOrigin, RuleOf, Legal}
 use Rattle.transaction_model.proofs.Endings.{live_not_committed}
 use Rattle.xact_redo.specs.TransactionsOf.{transaction_of, transactions_of}
 use Rattle.row_model.specs.Versions.{Version, Inserter, Nobody, Always, By, version_at}
@@ -18,7 +18,7 @@ use Rattle.row_model.specs.Shown.{IsSound}
 
 -- only a live id commits
 commits_live :
-    (o : Origin) (xid : ℕ) (kind : Kind) (older now : List TransactionRecord) → RuleOf o xid kind older now → (x : ℕ)
+    (o : TransactionOrigin) (xid : ℕ) (kind : Kind) (older now : List TransactionRecord) → RuleOf o xid kind older now → (x : ℕ)
     → commits x xid kind ≡ true → Live o.at x older
 commits_live o xid (Commit subs) older now rule x h = rule.live x h
 commits_live o xid (Abort subs) older now rule x h = absurd (false≢true h)
@@ -28,7 +28,7 @@ commits_live o xid (Shutdown next) older now rule x h = absurd (false≢true h)
 commits_live o xid (Online redo next) older now rule x h = absurd (false≢true h)
 commits_live o xid Other older now rule x h = absurd (false≢true h)
 
-module _ (o : Origin) (r : TransactionRecord) (older : List TransactionRecord) (legal : Legal o (r ∷ older)) where
+module _ (o : TransactionOrigin) (r : TransactionRecord) (older : List TransactionRecord) (legal : Legal o (r ∷ older)) where
   -- a record more commits no id that has ended
   ended_uncommitted : (x : ℕ) → ended o.at x older ≡ true → committed o.at x older ≡ false → committed o.at x (r ∷ older) ≡ false
   unfolding committed Legal

@@ -2,14 +2,14 @@
 use Rattle.std.proofs.Common.{◌≡◌, ℕ, ◌%◌, ◌^◌, ◌<◌, ◌==◌, Bool, ◌||◌, List, ◌∷◌, drop, bit_and, refl, sym, ap, subst, ◌∙◌, if◌then◌else◌}
 use Rattle.std.proofs.lemmas.Bool.{false≢true}
 use Rattle.std.proofs.lemmas.List.Elements.{All-drop}
-use Rattle.heap_tuple.specs.Tuple.{IsTuple, xmin_of, xmax_of, infomask_of, columns_of, has_bits, is_lock_only, max_of}
+use Rattle.heap_tuple.specs.Tuple.{IsTuple, xmin_of, xmax_of, infomask_of, columns_of, is_lock_only, max_of}
 use Rattle.heap_tuple.specs.declared.tuple_view.MaxOf.{MaxOf}
 use Rattle.heap_tuple.specs.declared.tuple_view.MaxOf.TheVariants.{None as NoDeleter, Xid as DeletedBy, Multi}
 use Rattle.heap_page.specs.Put.{with_head}
 use Rattle.tuple_visibility.specs.Visible.{xmin_marks}
 use Rattle.wal_bodies.specs.declared.types.Rec.{Rec}
 use Rattle.row_model.specs.Origins.{LogOrigin}
-use Rattle.wal_bodies.specs.Fields.{has}
+use Rattle.pg_types.specs.Numbers.{has_bits}
 use Rattle.heap_redo.specs.TupleHeads.{Head, head_of, head_bytes, marked_mask, pointing_to}
 use Rattle.row_model.specs.Versions.{Version, Inserter, Nobody, Always, By, taken_back, with_deleter}
 use Rattle.row_model.specs.RowSteps.{deleter_of_mark}
@@ -59,7 +59,7 @@ max-by lock lock2 multi multi2 xmax xmax2 a b c = rw (a, b, c) refl
 pub marked-max : (xmin xmax bits : ℕ) (tuple new : List ℕ) → IsMarked xmin xmax bits tuple new → max_of new ≡ deleter_of_mark xmax bits
 unfolding max_of deleter_of_mark
 marked-max xmin xmax bits tuple new m =
-    max-by (is_lock_only (infomask_of new)) (is_lock_only (marked_mask bits 0)) (has_bits (infomask_of new) 0x1000) (has bits 1)
+    max-by (is_lock_only (infomask_of new)) (is_lock_only (marked_mask bits 0)) (has_bits (infomask_of new) 0x1000) (has_bits bits 1)
     (xmax_of new) xmax
     (ap is_lock_only m.mask_is ∙ mark-lock_only bits (infomask_of tuple))
     (ap (λ n. has_bits n 0x1000) m.mask_is ∙ mark-multi bits (infomask_of tuple))

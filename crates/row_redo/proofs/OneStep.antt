@@ -6,7 +6,7 @@ use Rattle.heap_page.specs.Item.{Item, normal, numbered, is_normal}
 use Rattle.tuple_visibility.specs.Visible.{xmin_marks}
 use Rattle.wal_bodies.specs.declared.types.Rec.{Rec}
 use Rattle.row_model.specs.Origins.{LogOrigin}
-use Rattle.wal_bodies.specs.Fields.{has}
+use Rattle.pg_types.specs.Numbers.{has_bits}
 use Rattle.heap_redo.specs.TupleHeads.{Head, head_of, pointing_to, deleted}
 use Rattle.heap_redo.specs.After.{put, change_head}
 use Rattle.row_model.specs.Versions.{Version, Always, By, Born, Deleter, Undone, is_frozen, taken_back, version_at, version_born, changed_at, with_deleter, with_step}
@@ -158,7 +158,7 @@ deleter-shown from log vs block line f xmax bits items after small marks fit sho
 -- an insertion is taken back, and its version has no inserter
 pub undone-shown :
     (from : LogOrigin) (log : List Rec) (vs : List Version) (block line xmax bits flags : ℕ) (items after : List Item)
-    → has flags 0x08 ≡ true → TuplesFit items → ShowsBlock from log vs block items
+    → has_bits flags 0x08 ≡ true → TuplesFit items → ShowsBlock from log vs block items
     → change_head line (λ head. deleted xmax bits flags block line head) items ≡ Ok after
     → ShowsBlock from log (with_step vs (Undone block line)) block after × TuplesFit after
 unfolding with_step head_of

@@ -6,7 +6,7 @@ use Rattle.wal_bodies.specs.declared.types.RecBlock.{RecBlock}
 use Rattle.wal_bodies.specs.declared.types.Rec.{Rec}
 use Rattle.wal_bodies.specs.declared.types.RecKind.{RecKind}
 use Rattle.wal_bodies.specs.declared.types.RecKind.TheVariants.{Checkpoint, BackupEnd, Parameters, FullPageWrites, Images, Overwrite, Ended, Running, Insert, Delete, Update, Confirm, Lock, MultiInsert, LockUpdated, Other}
-use Rattle.wal_bodies.specs.Fields.{has}
+use Rattle.pg_types.specs.Numbers.{has_bits}
 use Rattle.heap_redo.specs.After.{applied, number_of}
 use Rattle.heap_page.specs.Item.{Item, unused, normal, redirect, dead}
 use Rattle.row_model.specs.Versions.{Version, RowStep, Deleter, Undone, version_at}
@@ -66,7 +66,7 @@ unfolding own_steps
 own_in rec block (Insert line flags) vs = births_in rec block (applied block.image) (line ∷ [])
 own_in rec block (MultiInsert flags lines) vs = births_in rec block (applied block.image) lines
 own_in rec block (Delete xmax line bits flags) vs =
-    either_in block.block (has flags 0x08) (Undone block.block line ∷ []) (Deleter block.block line (deleter_of_mark xmax.0 bits) ∷ [])
+    either_in block.block (has_bits flags 0x08) (Undone block.block line ∷ []) (Deleter block.block line (deleter_of_mark xmax.0 bits) ∷ [])
     (refl, tt) (refl, tt)
 own_in rec block (Update old_xmax old_line old_bits flags new_xmax new_line) vs =
     update_in rec block old_xmax.0 old_line old_bits new_xmax.0 new_line (number_of 0 rec.blocks) (number_of 1 rec.blocks) vs

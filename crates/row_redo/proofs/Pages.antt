@@ -12,7 +12,7 @@ use Rattle.heap_page.specs.Law.{TuplesKeepRule, ZerosHaveNone}
 use Rattle.page_store.specs.Content.{zeros}
 use Rattle.wal_bodies.specs.declared.types.RecImage.{RecImage}
 use Rattle.heap_redo.specs.After.{page_of_image}
-use Rattle.heap_redo.specs.Redone.{seen, seen_page, bad_block}
+use Rattle.page_store.specs.Seen.{seen, seen_page, bad_block}
 use Rattle.row_model.specs.RowSteps.{items_in}
 use Rattle.record_numbers.specs.Fits.{AreBytes}
 use Rattle.row_redo.proofs.Fitting.{TuplesFit}

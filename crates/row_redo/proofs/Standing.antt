@@ -2,7 +2,7 @@
 use Rattle.std.proofs.Common.{◌≡◌, ℕ, ◌<◌, ◌≤◌, List, ◌∷◌, Option, Some, None, arith, subst}
 use Rattle.heap_tuple.specs.Tuple.{IsTuple, hoff_of}
 use Rattle.heap_page.specs.Item.{Item, normal, numbered}
-use Rattle.heap_redo.specs.Redone.{Seen, absent, bad_block, seen_page}
+use Rattle.page_store.specs.Seen.{Seen, absent, bad_block, seen_page}
 use Rattle.wal_bodies.specs.declared.types.Rec.{Rec}
 use Rattle.row_model.specs.Origins.{LogOrigin}
 use Rattle.transaction_model.specs.LegalTransactions.{Legal}

@@ -5,7 +5,8 @@ use Rattle.pg_types.specs.declared.names.Tag.{Tag}
 use Rattle.page_store.specs.Content.{is_at}
 use Rattle.wal_bodies.specs.declared.types.RecBlock.{RecBlock}
 use Rattle.wal_bodies.specs.declared.types.Rec.{Rec}
-use Rattle.heap_redo.specs.Redone.{Seen, View, is_anew, is_left, with_seen, or_zero_block, grown, view_with}
+use Rattle.page_store.specs.Seen.{Seen, View}
+use Rattle.heap_redo.specs.Redone.{is_anew, is_left, with_seen, or_zero_block, grown, view_with}
 
 apart : (v : Bool) (f g : View) (t b : ℕ) → (cond v f g) t b ≡ cond v (f t b) (g t b)
 apart true f g t b = refl

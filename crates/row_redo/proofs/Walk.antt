@@ -11,7 +11,8 @@ use Rattle.wal_bodies.specs.declared.types.Rec.{Rec}
 use Rattle.wal_bodies.specs.HeapKinds.{same_locator}
 use Rattle.heap_redo.specs.After.{BlockRefusal, applied}
 use Rattle.heap_redo.specs.declared.fault.RedoFault.{RedoFault}
-use Rattle.heap_redo.specs.Redone.{Seen, absent, bad_block, seen_page, View, Outcome, is_anew, is_left, or_zero_block, view_with, view_by, table_of, redone_block, redone_in, redone_at, and_then, redone}
+use Rattle.page_store.specs.Seen.{Seen, absent, bad_block, seen_page, View}
+use Rattle.heap_redo.specs.Redone.{Outcome, is_anew, is_left, or_zero_block, view_with, view_by, table_of, redone_block, redone_in, redone_at, and_then, redone}
 use Rattle.row_model.specs.Origins.{LogOrigin}
 use Rattle.row_model.specs.Versions.{Version, RowStep, version_at, with_steps}
 use Rattle.row_model.specs.RowSteps.{block_steps, steps_in, count_with}

@@ -2,27 +2,19 @@
 use Rattle.std.specs.Prelude.{◌≡◌, ℕ, ◌<◌, List, [], ◌∷◌, All, Some, Ok}
 use Rattle.pg_types.specs.declared.names.Locator.{Locator}
 use Rattle.wal_bodies.specs.declared.types.Rec.{Rec}
-use Rattle.heap_redo.specs.Redone.{View, table_of}
+use Rattle.page_store.specs.Seen.{View}
+use Rattle.heap_redo.specs.Redone.{table_of}
 use Rattle.row_model.specs.Origins.{BeginsEmpty, LogOrigin}
 use Rattle.row_model.specs.RowSteps.{block_count, versions, view_after}
 use Rattle.record_numbers.specs.Fits.{RecordFits}
 use Rattle.row_model.specs.LegalRows.{LegalLog}
 use Rattle.row_model.specs.Shown.{ShowsTable}
-
--- where the last record ends, 0 before the first
-abbrev pub last_end : List Rec → ℕ
-last_end [] = 0
-last_end (rec ∷ older) = rec.end.0
-
--- each record ends past the end of the one before
-abbrev pub Rises : List Rec → Type 0
-Rises [] = Unit {0}
-Rises (rec ∷ older) = (last_end older < rec.end.0) × Rises older
+use Rattle.wal_bodies.specs.Ends.{Rises}
 
 -- after a legal log that began with empty tables the blocks of each described table show its versions
 abbrev pub BlocksShowVersions : Type 0
 BlocksShowVersions =
     (o : LogOrigin) (known : List Locator) (log : List Rec) (view : View) (table : ℕ) (locator : Locator)
-    → table_of known locator ≡ Some table → BeginsEmpty o → LegalLog o known log → Rises log → All RecordFits log
+    → table_of known locator ≡ Some table → BeginsEmpty o → LegalLog o known log → Rises 0 log → All RecordFits log
     → view_after o known log ≡ Ok view
     → ShowsTable o log (versions o locator log) (block_count o locator log) (view table)

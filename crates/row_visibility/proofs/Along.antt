@@ -14,9 +14,9 @@ use Rattle.subtrans.specs.declared.Pair.{Pair}
 use Rattle.subtrans.specs.Parents.{from_sub}
 use Rattle.standby_snapshot.specs.Snapshot.{in_progress, no_parents, take_of}
 use Rattle.xact_redo.specs.State.{before_records, shows_ended, standby_of, state_after}
-use Rattle.xact_redo.specs.TransactionsOf.{is_commit, is_shutdown, kind_of, transaction_of, transactions_of}
+use Rattle.xact_redo.specs.TransactionsOf.{is_commit, at_shutdown, kind_of, transaction_of, transactions_of}
 use Rattle.transaction_model.specs.Transactions.{Kind, Commit, Abort, Shutdown, Online, TransactionRecord, IsXmin, committed}
-use Rattle.transaction_model.specs.LegalTransactions.{Legal, Origin}
+use Rattle.transaction_model.specs.LegalTransactions.{Legal, TransactionOrigin}
 use Rattle.transaction_model.specs.StandbyStates.{Leads, StandbyState, forget_below, replay, shown}
 use Rattle.transaction_model.specs.TransactionLaws.{IdsDecide, NoneAssigned, StateAgrees, XminAgrees, is_assignment}
 use Rattle.row_visibility.specs.Sees.{HasNoStatuses, StateAlong, XminAlong, state_along}
@@ -34,7 +34,7 @@ forget_none k = ap (λ (pairs : List Pair). record k { parents = pairs }) (from_
 
 -- the log leads to what is known, with none of the parents forgotten
 pub leads_along :
-    (o : Origin) (log : List Rec) → Legal o (transactions_of log)
+    (o : TransactionOrigin) (log : List Rec) → Legal o (transactions_of log)
     → Leads first (transactions_of log) (standby_of (state_along log))
 unfolding state_along state_after before_records transaction_of
 leads_along o [] legal = refl
@@ -57,7 +57,7 @@ no_assignment head (Ended time xinfo xids) =
     cond_both (is_commit head) (Commit (numbers xids)) (Abort (numbers xids))
     (λ (kind : Kind). is_assignment kind ≡ false) (λ e. refl) (λ e. refl)
 no_assignment head (Checkpoint redo timeline previous writes next multi member oldest active) =
-    cond_both (is_shutdown head) (Shutdown next.0) (Online redo.0 next.0) (λ (kind : Kind). is_assignment kind ≡ false)
+    cond_both (at_shutdown head) (Shutdown next.0) (Online redo.0 next.0) (λ (kind : Kind). is_assignment kind ≡ false)
     (λ e. refl)
     (λ e. refl)
 no_assignment head _ = refl
@@ -71,7 +71,7 @@ none_assigned (r ∷ older) =
     (no_assignment r.head r.kind)
     (none_assigned older)
 
-legal_before_none : (o : Origin) (log : List TransactionRecord) → Legal o log → Legal o (log ++ [])
+legal_before_none : (o : TransactionOrigin) (log : List TransactionRecord) → Legal o log → Legal o (log ++ [])
 legal_before_none o log legal = subst (Legal o) (sym (append-nil log)) legal
 
 pub state_is : StateAgrees → StateAlong
@@ -88,7 +88,7 @@ xmin_is agrees xmins o log none legal ready =
 
 -- an id that committed is not in progress
 pub decided_along :
-    StateAgrees → IdsDecide → (o : Origin) (log : List Rec) → HasNoStatuses o.at → Legal o (transactions_of log)
+    StateAgrees → IdsDecide → (o : TransactionOrigin) (log : List Rec) → HasNoStatuses o.at → Legal o (transactions_of log)
     → (state_along log).known.mode ≡ Ready → (x : ℕ)
     → (not (in_progress (take_of (state_along log).known) no_parents x) && committed o.at x (transactions_of log))
     ≡ committed o.at x (transactions_of log)

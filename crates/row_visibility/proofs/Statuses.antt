@@ -14,27 +14,27 @@ use Rattle.known_assigned.specs.Ids.{is_among, numbers}
 use Rattle.tuple_visibility.specs.Visible.{is_committed}
 use Rattle.xact_redo.specs.State.{before_records, has_ended, outcome_of, state_after, statuses_after}
 use Rattle.transaction_model.specs.Transactions.{Kind, Commit, Abort, Shutdown, Online, TransactionRecord, Statuses, commits, finishes, ends, committed, finished, ended, Live}
-use Rattle.transaction_model.specs.LegalTransactions.{Legal, NamesLive, Origin, OriginRule, RuleOf}
+use Rattle.transaction_model.specs.LegalTransactions.{Legal, NamesLive, TransactionOrigin, TransactionOriginRule, RuleOf}
 use Rattle.transaction_model.specs.StandbyStates.{shown}
 use Rattle.transaction_model.specs.TransactionLaws.{IsCaughtUp, ShowsFinished}
 use Rattle.transaction_model.proofs.Endings.{live_not_committed}
-use Rattle.xact_redo.specs.TransactionsOf.{is_commit, is_shutdown, kind_of, transaction_of, transactions_of}
+use Rattle.xact_redo.specs.TransactionsOf.{is_commit, at_shutdown, kind_of, transaction_of, transactions_of}
 use Rattle.row_visibility.specs.Sees.{HasNoStatuses, state_along}
 
 -- what the commit log shows ended before the first record
 abbrev pub first : ℕ → Bool
 first x = has_ended (initial_status x)
 
-pub origin_rule : (o : Origin) (log : List TransactionRecord) → Legal o log → OriginRule o
+pub origin_rule : (o : TransactionOrigin) (log : List TransactionRecord) → Legal o log → TransactionOriginRule o
 unfolding Legal
 origin_rule o [] legal = legal
 origin_rule o (r ∷ older) (rule, legal) = origin_rule o older legal
 
-pub legal_rest : (o : Origin) (r : TransactionRecord) (older : List TransactionRecord) → Legal o (r ∷ older) → Legal o older
+pub legal_rest : (o : TransactionOrigin) (r : TransactionRecord) (older : List TransactionRecord) → Legal o (r ∷ older) → Legal o older
 unfolding Legal
 legal_rest o r older (rule, legal) = legal
 
-pub rule_of : (o : Origin) (r : TransactionRecord) (older : List TransactionRecord) → Legal o (r ∷ older) → RuleOf o r.xid r.kind older (r ∷ older)
+pub rule_of : (o : TransactionOrigin) (r : TransactionRecord) (older : List TransactionRecord) → Legal o (r ∷ older) → RuleOf o r.xid r.kind older (r ∷ older)
 unfolding Legal
 rule_of o r older (rule, legal) = rule
 
@@ -80,7 +80,7 @@ abbrev outcome : Bool → Status
 outcome commit = cond commit Committed Aborted
 
 ending_names :
-    (o : Origin) (xid : ℕ) (subs : List ℕ) (older now : List TransactionRecord) (commit : Bool)
+    (o : TransactionOrigin) (xid : ℕ) (subs : List ℕ) (older now : List TransactionRecord) (commit : Bool)
     → RuleOf o xid (ending commit subs) older now → NamesLive o xid subs older
 ending_names o xid subs older now true rule = rule.live
 ending_names o xid subs older now false rule = rule.live
@@ -115,7 +115,7 @@ checkpoint_committed false was x xid next redo = refl
 
 -- one record: a test of a status afterwards is what the record says of it, or what the test was before
 ended_after :
-    (o : Origin) (head : RecordHead) (kind : RecKind) (before : ℕ → Status) (older now : List TransactionRecord)
+    (o : TransactionOrigin) (head : RecordHead) (kind : RecKind) (before : ℕ → Status) (older now : List TransactionRecord)
     → RuleOf o head.xid.0 (kind_of head kind) older now → (x : ℕ)
     → has_ended (statuses_after head kind before x) ≡ (finishes x head.xid.0 (kind_of head kind) || has_ended (before x))
 ended_after o head (Ended time xinfo xids) before older now rule x =
@@ -123,11 +123,11 @@ ended_after o head (Ended time xinfo xids) before older now rule x =
     (λ y h. (ending_names o head.xid.0 (numbers xids) older now (is_commit head) rule y h).normal)
     ∙ ended_now head.xid.0 (numbers xids) (is_commit head) (has_ended (before x)) x
 ended_after o head (Checkpoint redo timeline previous writes next multi member oldest active) before older now rule x =
-    checkpoint_ended (is_shutdown head) (has_ended (before x)) x head.xid.0 next.0 redo.0
+    checkpoint_ended (at_shutdown head) (has_ended (before x)) x head.xid.0 next.0 redo.0
 ended_after o head _ before older now rule x = refl
 
 committed_after :
-    (o : Origin) (head : RecordHead) (kind : RecKind) (before : ℕ → Status) (older now : List TransactionRecord)
+    (o : TransactionOrigin) (head : RecordHead) (kind : RecKind) (before : ℕ → Status) (older now : List TransactionRecord)
     → RuleOf o head.xid.0 (kind_of head kind) older now → (x : ℕ) → is_committed (before x) ≡ committed o.at x older
     → is_committed (statuses_after head kind before x)
     ≡ (commits x head.xid.0 (kind_of head kind) || is_committed (before x))
@@ -137,12 +137,12 @@ committed_after o head (Ended time xinfo xids) before older now rule x same =
     ∙ committed_now head.xid.0 (numbers xids) (is_commit head) (is_committed (before x)) x
     (λ h. same ∙ live_not_committed o.at x older (names x h))
 committed_after o head (Checkpoint redo timeline previous writes next multi member oldest active) before older now rule x same =
-    checkpoint_committed (is_shutdown head) (is_committed (before x)) x head.xid.0 next.0 redo.0
+    checkpoint_committed (at_shutdown head) (is_committed (before x)) x head.xid.0 next.0 redo.0
 committed_after o head _ before older now rule x same = refl
 
 -- the commit log shows ended what the records finished
 pub ended_along :
-    (o : Origin) (log : List Rec) → Legal o (transactions_of log) → (x : ℕ)
+    (o : TransactionOrigin) (log : List Rec) → Legal o (transactions_of log) → (x : ℕ)
     → has_ended ((state_along log).statuses x) ≡ shown first (transactions_of log) x
 unfolding state_along state_after before_records transaction_of shown
 ended_along o [] legal x = refl
@@ -167,7 +167,7 @@ or_none false b e = sym e
 
 -- it shows committed what the log committed
 pub committed_along :
-    (o : Origin) (log : List Rec) → HasNoStatuses o.at → Legal o (transactions_of log) → (x : ℕ)
+    (o : TransactionOrigin) (log : List Rec) → HasNoStatuses o.at → Legal o (transactions_of log) → (x : ℕ)
     → is_committed ((state_along log).statuses x) ≡ committed o.at x (transactions_of log)
 unfolding state_along state_after before_records transaction_of committed
 committed_along o [] none legal x =
@@ -204,12 +204,12 @@ first_committed s [] x h = or_left (x == 1 || x == 2) (s.is_committed x) h
 first_committed s (r ∷ older) x h = or_right (commits x r.xid r.kind) (committed s x older) (first_committed s older x h)
 
 commits_normal :
-    (o : Origin) (xid : ℕ) (kind : Kind) (older now : List TransactionRecord) → RuleOf o xid kind older now → (x : ℕ)
+    (o : TransactionOrigin) (xid : ℕ) (kind : Kind) (older now : List TransactionRecord) → RuleOf o xid kind older now → (x : ℕ)
     → commits x xid kind ≡ true → 3 ≤ x
 commits_normal o xid (Commit subs) older now rule x h = (rule.live x h).normal
 commits_normal o xid _ older now rule x h = absurd (false≢true h)
 
-pub zero_not_committed : (o : Origin) (log : List TransactionRecord) → Legal o log → committed o.at 0 log ≡ false
+pub zero_not_committed : (o : TransactionOrigin) (log : List TransactionRecord) → Legal o log → committed o.at 0 log ≡ false
 unfolding committed
 zero_not_committed o [] legal = (origin_rule o [] legal).zero_not_committed
 zero_not_committed o (r ∷ older) legal =

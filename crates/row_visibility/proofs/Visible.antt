@@ -3,7 +3,8 @@ use Rattle.std.proofs.Common.{◌≡◌, ℕ, Bool, true, false, not, ◌&&◌, 
 use Rattle.std.proofs.lemmas.Bool.{eqb-true, false≢true, true≢false}
 use Rattle.pg_types.specs.declared.status.Status.{Status}
 use Rattle.pg_types.specs.declared.status.Unknown.{Unknown}
-use Rattle.heap_tuple.specs.Tuple.{has_bits, infomask_of, max_of, xmin_of}
+use Rattle.pg_types.specs.Numbers.{has_bits}
+use Rattle.heap_tuple.specs.Tuple.{infomask_of, max_of, xmin_of}
 use Rattle.heap_tuple.specs.declared.tuple_view.MaxOf.{MaxOf}
 use Rattle.heap_tuple.specs.declared.tuple_view.MaxOf.TheVariants.{None as NoDeleter, Xid as DeletedBy, Multi}
 use Rattle.standby_snapshot.specs.Snapshot.{SnapshotData, in_progress, no_parents, take_of}

@@ -6,7 +6,7 @@ use Rattle.standby_snapshot.specs.Snapshot.{take_of}
 use Rattle.xact_redo.specs.Sees.{sees}
 use Rattle.xact_redo.specs.State.{TransactionState, before_records, state_after}
 use Rattle.transaction_model.specs.Transactions.{Statuses, IsXmin, state_of}
-use Rattle.transaction_model.specs.LegalTransactions.{Legal, Origin}
+use Rattle.transaction_model.specs.LegalTransactions.{Legal, TransactionOrigin}
 use Rattle.xact_redo.specs.TransactionsOf.{transactions_of}
 use Rattle.row_model.specs.Versions.{Version}
 use Rattle.row_model.specs.Rows.{is_row}
@@ -27,12 +27,12 @@ HasNoStatuses s = (x : ℕ) → (s.is_committed x ≡ false) × (s.is_aborted x 
 -- the state of the rules is that of the log
 abbrev pub StateAlong : Type 0
 StateAlong =
-    (o : Origin) (log : List Rec) → Legal o (transactions_of log) → (state_along log).known.mode ≡ state_of (transactions_of log)
+    (o : TransactionOrigin) (log : List Rec) → Legal o (transactions_of log) → (state_along log).known.mode ≡ state_of (transactions_of log)
 
 -- the xmin of a snapshot is the least live id
 abbrev pub XminAlong : Type 0
 XminAlong =
-    (o : Origin) (log : List Rec) → HasNoStatuses o.at → Legal o (transactions_of log) → (state_along log).known.mode ≡ Ready
+    (o : TransactionOrigin) (log : List Rec) → HasNoStatuses o.at → Legal o (transactions_of log) → (state_along log).known.mode ≡ Ready
     → IsXmin o.at (take_of (state_along log).known).xmin (transactions_of log)
 
 -- a snapshot sees exactly the tuples whose versions are rows

@@ -16,7 +16,7 @@ use Rattle.standby_model.specs.Log.{Stands, Stop, Ended, Refused, next_of}
 use Rattle.standby_model.proofs.Logs.{stands_once}
 use Rattle.scan_model.specs.Run.{origin, redone_at, replayed}
 use Rattle.scan_model.specs.Tables.{number_named, table_with}
-use Rattle.scan_model.specs.Scan.{Reply, LogRefused, Scanned, Start, Stops, Scans, Starts, StartsWith, AnswersBlocks, AnswersLog, AnswersNext, AnswersOpening, AnswersRows, AnswersStart, AnswersTable, is_admitted, is_there, page_of, pages_from, schema_name, start_by, table_of}
+use Rattle.scan_model.specs.Scan.{Answer, LogRefused, Scanned, Start, Stops, Scans, Starts, StartsWith, AnswersBlocks, AnswersLog, AnswersNext, AnswersOpening, AnswersRows, AnswersStart, AnswersTable, is_admitted, is_there, page_of, pages_from, schema_name, start_by, table_of}
 use Rattle.scan_model.specs.Laws.{OneAnswer}
 use Rattle.scan_model.proofs.Runs.{led_before}
 
@@ -42,30 +42,30 @@ one_count there m n a b =
       | inr (inr more) ↦ absurd (not_less there n m b a more)
     ]
 
-one_of_rows : (node : Standby) (table : ℕ) (a b : Reply) → AnswersRows node table a → AnswersRows node table b → a ≡ b
+one_of_rows : (node : Standby) (table : ℕ) (a b : Answer) → AnswersRows node table a → AnswersRows node table b → a ≡ b
 one_of_rows node table a b p q =
     let same = one_count (λ block. is_there (node.blocks table block)) p.blocks q.blocks p.count q.count in
     p.says ∙ ap (λ (n : ℕ). Scanned node.at.0 (table_with node.tables table) n (pages_from (page_of node table) 0 n)) same ∙ sym q.says
 
 one_of_opening :
-    (node : Standby) (table : ℕ) (admitted : Bool) (a b : Reply) → AnswersOpening node table admitted a
+    (node : Standby) (table : ℕ) (admitted : Bool) (a b : Answer) → AnswersOpening node table admitted a
     → AnswersOpening node table admitted b → a ≡ b
 one_of_opening node table true a b p q = one_of_rows node table a b p q
 one_of_opening node table false a b p q = p ∙ sym q
 
-one_of_table : (node : Standby) (table : Option ℕ) (a b : Reply) → AnswersTable node table a → AnswersTable node table b → a ≡ b
+one_of_table : (node : Standby) (table : Option ℕ) (a b : Answer) → AnswersTable node table a → AnswersTable node table b → a ≡ b
 one_of_table node None a b p q = p ∙ sym q
 one_of_table node (Some table) a b p q = one_of_opening node table (is_admitted node) a b p q
 
 one_at_blocks :
-    (node : Standby) (next : Result Standby RedoFault) (a b : Reply) → AnswersBlocks node next a → AnswersBlocks node next b → a ≡ b
+    (node : Standby) (next : Result Standby RedoFault) (a b : Answer) → AnswersBlocks node next a → AnswersBlocks node next b → a ≡ b
 one_at_blocks node (Ok next) a b p q = absurd p
 one_at_blocks node (Err fault) a b (what, e, f) (other, g, h) =
     let same : what ≡ other = one_some (redo_refusal fault) what other e g in
     f ∙ ap (λ (w : Refusal). LogRefused node.at.0 w) same ∙ sym h
 
 one_at_next :
-    (name : List ℕ) (node : Standby) (next : Result Rec Stop) (a b : Reply) → AnswersNext name node next a
+    (name : List ℕ) (node : Standby) (next : Result Rec Stop) (a b : Answer) → AnswersNext name node next a
     → AnswersNext name node next b → a ≡ b
 one_at_next name node (Err (Ended why)) a b p q = one_of_table node (number_named node.tables name) a b p q
 one_at_next name node (Err (Refused what)) a b p q = p ∙ sym q
@@ -94,7 +94,7 @@ module _ (tables : Description) (told : Told) where
       ]
 
 not_on :
-    (name : List ℕ) (node next : Standby) (found : Result Rec Stop) (rec : Rec) (reply : Reply) → AnswersNext name node found reply
+    (name : List ℕ) (node next : Standby) (found : Result Rec Stop) (rec : Rec) (reply : Answer) → AnswersNext name node found reply
     → found ≡ Ok rec → redone_at rec node ≡ Ok next → ⊥
 not_on name node next found rec reply says e f =
     subst (λ (r : Result Standby RedoFault). AnswersBlocks node r reply) f
@@ -102,21 +102,21 @@ not_on name node next found rec reply says e f =
 
 module _ (tables : Description) (name : List ℕ) (files : List ℕ → Option (List ℕ)) where
   not_longer :
-      (a b : Reply) (p : AnswersLog tables name files a) (q : AnswersLog tables name files b) → length p.log < length q.log → ⊥
+      (a b : Answer) (p : AnswersLog tables name files a) (q : AnswersLog tables name files b) → length p.log < length q.log → ⊥
   not_longer a b p q less =
       let (rec, next, stands, redone) =
       goes_on tables (told_by files) p.log q.log p.node q.node less p.stands p.is_replayed q.stands q.is_replayed in
       not_on name p.node next (next_of (told_by files) (described_in tables) origin.redo.0 p.log) rec a p.says stands redone
 
   moved :
-      (node there : Standby) (log other : List Rec) (b : Reply) → other ≡ log → there ≡ node
+      (node there : Standby) (log other : List Rec) (b : Answer) → other ≡ log → there ≡ node
       → AnswersNext name there (next_of (told_by files) (described_in tables) origin.redo.0 other) b
       → AnswersNext name node (next_of (told_by files) (described_in tables) origin.redo.0 log) b
   moved node there log other b e f says =
       subst (λ (n : Standby). AnswersNext name n (next_of (told_by files) (described_in tables) origin.redo.0 log) b) f
       (subst (λ (l : List Rec). AnswersNext name there (next_of (told_by files) (described_in tables) origin.redo.0 l) b) e says)
 
-  one_of_log : (a b : Reply) → AnswersLog tables name files a → AnswersLog tables name files b → a ≡ b
+  one_of_log : (a b : Answer) → AnswersLog tables name files a → AnswersLog tables name files b → a ≡ b
   one_of_log a b p q =
       elim (cases_order (length p.log) (length q.log)) [
         | inl e ↦
@@ -148,7 +148,7 @@ pub one_start :
 one_start words base a b p q = one_start_with (table_of words) base a b p q
 
 one_of_start :
-    (start : Start) (files : List ℕ → Option (List ℕ)) (a b : Reply) → AnswersStart start files a → AnswersStart start files b → a ≡ b
+    (start : Start) (files : List ℕ → Option (List ℕ)) (a b : Answer) → AnswersStart start files a → AnswersStart start files b → a ≡ b
 one_of_start (Stops answer) files a b p q = p ∙ sym q
 one_of_start (Scans tables name) files a b p q = one_of_log tables name files a b p q
 

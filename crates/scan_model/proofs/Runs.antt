@@ -2,11 +2,13 @@
 use Rattle.std.proofs.Common.{◌≡◌, List, [], ◌∷◌, Result, Ok, Err, refl, sym, ap, subst}
 use Rattle.wal_bodies.specs.declared.types.Rec.{Rec}
 use Rattle.heap_redo.specs.declared.fault.RedoFault.{RedoFault}
-use Rattle.heap_redo.specs.Redone.{View, redone}
+use Rattle.page_store.specs.Seen.{View}
+use Rattle.heap_redo.specs.Redone.{redone}
 use Rattle.table_schema.specs.Description.{Description, locators}
 use Rattle.standby_core.specs.Standby.{Standby, at_origin}
 use Rattle.standby_model.specs.Archived.{segment_size}
-use Rattle.standby_model.specs.Log.{end_of, link_after}
+use Rattle.wal_bodies.specs.Ends.{end_of}
+use Rattle.standby_model.specs.Log.{link_after}
 use Rattle.scan_model.specs.Run.{applied, origin, redone_at, redone_on, replayed, start, unless_faulty}
 
 -- a standby that replayed a record had replayed those before it

@@ -5,7 +5,8 @@ use Rattle.std.specs.Prelude.{List, [], ◌∷◌, Result, Ok, Err}
 use Rattle.wal_record.specs.declared.types.PrevRule.TheVariants.{Is}
 use Rattle.wal_bodies.specs.declared.types.Rec.{Rec}
 use Rattle.heap_redo.specs.declared.fault.RedoFault.{RedoFault}
-use Rattle.heap_redo.specs.Redone.{View, absent, redone}
+use Rattle.page_store.specs.Seen.{View, absent}
+use Rattle.heap_redo.specs.Redone.{redone}
 use Rattle.table_schema.specs.Description.{Description, locators}
 use Rattle.xact_redo.specs.State.{state_after}
 use Rattle.standby_core.specs.declared.types.Origin.{Origin}

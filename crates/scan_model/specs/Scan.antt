@@ -10,7 +10,7 @@ use Rattle.known_assigned.specs.declared.state.State.TheVariants.{Initialized, P
 use Rattle.heap_tuple.specs.declared.cell.Cell.{Cell}
 use Rattle.heap_tuple.specs.declared.cell.Column.{Column}
 use Rattle.heap_redo.specs.declared.fault.RedoFault.{RedoFault}
-use Rattle.heap_redo.specs.Redone.{Seen, absent, bad_block, seen_page}
+use Rattle.page_store.specs.Seen.{Seen, absent, bad_block, seen_page}
 use Rattle.wal_bodies.specs.declared.types.Rec.{Rec}
 use Rattle.wal_bodies.specs.declared.types.What.{What}
 use Rattle.wal_bodies.specs.declared.types.What.TheVariants.{Prepared, InPlace, Minimal, PageWrites, Database, Epoch, NotYet}
@@ -36,14 +36,14 @@ use Rattle.scan_model.specs.Tables.{number_named, table_with}
 -- refused; the record at this position is refused; the table is not described; the standby does not admit scans, with its
 -- minimum and position, whether the end of the base backup is awaited, and what it knows of running transactions; or a
 -- scan at this position of this table, with so many blocks and the rows of its blocks up to the first that is refused
-pub data Reply : Type 0 where
-  BadWords : Reply
-  SchemaMissing : Reply
-  SchemaRefused : SchemaFault → Reply
-  LogRefused : (at : ℕ) → Refusal → Reply
-  NoTable : Reply
-  NotAdmitted : (min at : ℕ) → (awaited : Bool) → State → Reply
-  Scanned : (at : ℕ) → (table : DescribedTable) → (blocks : ℕ) → List BlockRows → Reply
+pub data Answer : Type 0 where
+  BadWords : Answer
+  SchemaMissing : Answer
+  SchemaRefused : SchemaFault → Answer
+  LogRefused : (at : ℕ) → Refusal → Answer
+  NoTable : Answer
+  NotAdmitted : (min at : ℕ) → (awaited : Bool) → State → Answer
+  Scanned : (at : ℕ) → (table : DescribedTable) → (blocks : ℕ) → List BlockRows → Answer
 
 -- the table that the words name
 abbrev pub table_of : List (List ℕ) → Option (List ℕ)
@@ -55,7 +55,7 @@ table_of (command ∷ table ∷ more ∷ words) = None
 -- how a run begins: the answer is at once, or there is a log to be read, with these tables, of which the one with this
 -- name is scanned
 pub data Start : Type 0 where
-  Stops : Reply → Start
+  Stops : Answer → Start
   Scans : Description → (name : List ℕ) → Start
 
 -- the file of the base folder that describes the tables
@@ -111,35 +111,35 @@ page_of node table block =
     block_rows (table_with node.tables table).columns (sees node.transactions) (node.blocks table block)
 
 -- a scan of the table with this number: over each block that it has
-pub record AnswersRows (node : Standby) (table : ℕ) (reply : Reply) : Type 0 where
+pub record AnswersRows (node : Standby) (table : ℕ) (reply : Answer) : Type 0 where
   pub blocks : ℕ
   pub count : (block : ℕ) → is_there (node.blocks table block) ≡ nat_lt block blocks
   pub says : reply ≡ Scanned node.at.0 (table_with node.tables table) blocks (pages_from (page_of node table) 0 blocks)
 
 -- a scan that is admitted, or why it is not
-abbrev pub AnswersOpening : Standby → ℕ → Bool → Reply → Type 0
+abbrev pub AnswersOpening : Standby → ℕ → Bool → Answer → Type 0
 AnswersOpening node table true reply = AnswersRows node table reply
 AnswersOpening node table false reply =
     reply ≡ NotAdmitted node.min.0 node.at.0 (is_some node.awaited) node.transactions.known.mode
 
-abbrev pub AnswersTable : Standby → Option ℕ → Reply → Type 0
+abbrev pub AnswersTable : Standby → Option ℕ → Answer → Type 0
 AnswersTable node None reply = reply ≡ NoTable
 AnswersTable node (Some table) reply = AnswersOpening node table (is_admitted node) reply
 
 -- a record at which replay stops is refused at one of its blocks
-abbrev pub AnswersBlocks : Standby → Result Standby RedoFault → Reply → Type 0
+abbrev pub AnswersBlocks : Standby → Result Standby RedoFault → Answer → Type 0
 AnswersBlocks node (Ok next) reply = ⊥
 AnswersBlocks node (Err fault) reply =
     (what : Refusal) × (redo_refusal fault ≡ Some what) × (reply ≡ LogRefused node.at.0 what)
 
 -- by what stands behind the records that were replayed: the log ends there, or the next record is refused
-abbrev pub AnswersNext : List ℕ → Standby → Result Rec Stop → Reply → Type 0
+abbrev pub AnswersNext : List ℕ → Standby → Result Rec Stop → Answer → Type 0
 AnswersNext name node (Err (Ended why)) reply = AnswersTable node (number_named node.tables name) reply
 AnswersNext name node (Err (Refused what)) reply = reply ≡ LogRefused node.at.0 (refusal_of what)
 AnswersNext name node (Ok rec) reply = AnswersBlocks node (redone_at rec node) reply
 
 -- the answer over the log that the archive's files tell: of a standby with these tables that replayed it as far as it goes
-pub record AnswersLog (tables : Description) (name : List ℕ) (files : List ℕ → Option (List ℕ)) (reply : Reply) : Type 0 where
+pub record AnswersLog (tables : Description) (name : List ℕ) (files : List ℕ → Option (List ℕ)) (reply : Answer) : Type 0 where
   pub log : List Rec
   pub stands : Stands (told_by files) (described_in tables) origin.redo.0 log
   pub node : Standby
@@ -147,12 +147,12 @@ pub record AnswersLog (tables : Description) (name : List ℕ) (files : List ℕ
   pub says : AnswersNext name node (next_of (told_by files) (described_in tables) origin.redo.0 log) reply
 
 -- the answer by how the run begins
-abbrev pub AnswersStart : Start → (List ℕ → Option (List ℕ)) → Reply → Type 0
+abbrev pub AnswersStart : Start → (List ℕ → Option (List ℕ)) → Answer → Type 0
 AnswersStart (Stops answer) files reply = reply ≡ answer
 AnswersStart (Scans tables name) files reply = AnswersLog tables name files reply
 
 -- what the program answers to its words over the files of the base folder and of the archive
-abbrev pub Answers : List (List ℕ) → (List ℕ → Option (List ℕ)) → (List ℕ → Option (List ℕ)) → Reply → Type 0
+abbrev pub Answers : List (List ℕ) → (List ℕ → Option (List ℕ)) → (List ℕ → Option (List ℕ)) → Answer → Type 0
 Answers words base files reply = (start : Start) × Starts words base start × AnswersStart start files reply
 
 -- the exit status of a scan by the end of its last block: a row that is refused is no failure of the log, damage is
@@ -169,14 +169,14 @@ status_after (page ∷ []) = status_at page.end
 status_after (page ∷ next ∷ pages) = status_after (next ∷ pages)
 
 -- the exit status of an answer
-abbrev pub status_of : Reply → ℕ
-status_of BadWords = 2
-status_of SchemaMissing = 4
-status_of (SchemaRefused fault) = 3
-status_of (LogRefused at what) = 5
-status_of NoTable = 1
-status_of (NotAdmitted min at awaited state) = 1
-status_of (Scanned at table blocks pages) = status_after pages
+abbrev pub exit_status : Answer → ℕ
+exit_status BadWords = 2
+exit_status SchemaMissing = 4
+exit_status (SchemaRefused fault) = 3
+exit_status (LogRefused at what) = 5
+exit_status NoTable = 1
+exit_status (NotAdmitted min at awaited state) = 1
+exit_status (Scanned at table blocks pages) = status_after pages
 
 -- a line
 abbrev pub line : List ℕ → List ℕ
@@ -270,7 +270,7 @@ schema_text Many = codes "many"
 schema_text Memory = codes "memory"
 
 -- the text of an answer
-unfoldable pub text_of : Reply → List ℕ
+unfoldable pub text_of : Answer → List ℕ
 text_of BadWords = line (codes "fault words")
 text_of SchemaMissing = line (codes "fault base missing schema.toml")
 text_of (SchemaRefused fault) = line (codes "fault schema " ++ schema_text fault)

@@ -6,7 +6,7 @@ use Rattle.heap_page.specs.Item.{Item, unused, normal, redirect, dead}
 use Rattle.heap_tuple.specs.Values.{RowRefusal, ToastedIn, BadIn, row_of}
 use Rattle.heap_tuple.specs.declared.cell.Cell.{Cell}
 use Rattle.heap_tuple.specs.declared.cell.Column.{Column}
-use Rattle.heap_redo.specs.Redone.{Seen, absent, bad_block, seen_page}
+use Rattle.page_store.specs.Seen.{Seen, absent, bad_block, seen_page}
 
 -- how a block's rows end: with its last line; before a line whose row is stored elsewhere or compressed, or is not as
 -- described, at this column; before a line that shows a multixact that is not known; or there is no such page

@@ -1,7 +1,7 @@
 ghost use Rattle.std.specs.Prelude.{◌≡◌, ◌≢◌, ◌<◌, IfOk, OnOk, OnErr};
 ghost use Rattle.heap_page.specs.Page.{items_of};
 ghost use Rattle.page_store.specs.Content.{content, table_count};
-ghost use Rattle.heap_redo.specs.Redone.{seen};
+ghost use Rattle.page_store.specs.Seen.{seen};
 ghost use Rattle.standby_snapshot.specs.Snapshot.{in_numbers, no_parents};
 ghost use Rattle.tuple_visibility.specs.Visible.{visible_of};
 ghost use Rattle.seq_scan.specs.BlockRows.{NoPage, ends, block_rows, rows_from};

@@ -6,7 +6,8 @@ use Rattle.wal_bodies.specs.declared.types.Rec.{Rec}
 use Rattle.wal_bodies.specs.declared.types.RecBlock.{RecBlock}
 use Rattle.heap_redo.specs.declared.fault.RedoFault.{RedoFault}
 use Rattle.heap_redo.specs.declared.fault.RedoFault.TheVariants.{Memory}
-use Rattle.heap_redo.specs.Redone.{Outcome, Seen, View, and_then, redone, redone_at, redone_block, redone_in, table_of, view_by}
+use Rattle.page_store.specs.Seen.{Seen, View}
+use Rattle.heap_redo.specs.Redone.{Outcome, and_then, redone, redone_at, redone_block, redone_in, table_of, view_by}
 use Rattle.heap_redo.specs.Refused.{fault_at}
 
 fault_not_memory : (rec : Rec) (block : RecBlock) (refusal : BlockRefusal) → fault_at rec block refusal ≡ Memory → ⊥

@@ -24,7 +24,8 @@ use Rattle.wal_bodies.specs.declared.types.Rec.{Rec}
 use Rattle.wal_bodies.specs.Typed.{typed}
 use Rattle.heap_redo.specs.declared.fault.RedoFault.{RedoFault}
 use Rattle.heap_redo.specs.declared.fault.RedoFault.TheVariants as redo
-use Rattle.heap_redo.specs.Redone.{Outcome, Stands, View}
+use Rattle.page_store.specs.Seen.{View}
+use Rattle.heap_redo.specs.Redone.{Outcome, Stands}
 use Rattle.xact_redo.specs.State.{state_after}
 use Rattle.table_schema.specs.Description.{locators}
 use Rattle.standby_core.specs.declared.node.Node.{Node}

@@ -47,7 +47,7 @@ pub record IsApplied (rec : Rec) (old new : Standby) : Type 0 where
       }
 
 -- a refusal of a record by its form or its body, as the node's own
-abbrev pub refusal_of : log.Refusal → Refusal
+abbrev pub refusal_of : log.RecordRefusal → Refusal
 refusal_of log.Compressed = Compressed
 refusal_of log.TooLong = TooLong
 refusal_of log.Length = Length
@@ -65,7 +65,7 @@ redo_refusal redo.Memory = None
 -- those before the refused one are then as after the record
 pub data IsRefusedAs (old new : Standby) (found : Result Rec Stop) (what : Refusal) : Type 0 where
   by_record :
-      (why : log.Refusal) → found ≡ Err (log.Refused why) → refusal_of why ≡ what → new.blocks ≡ old.blocks
+      (why : log.RecordRefusal) → found ≡ Err (log.Refused why) → refusal_of why ≡ what → new.blocks ≡ old.blocks
       → IsRefusedAs old new found what
   by_blocks :
       (rec : Rec) (fault : RedoFault) → found ≡ Ok rec → redone rec (locators old.tables) rec.blocks old.blocks ≡ (new.blocks, Err fault)

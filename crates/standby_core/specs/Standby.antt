@@ -5,7 +5,7 @@ use Rattle.wal_record.specs.declared.types.PrevRule.{PrevRule}
 use Rattle.wal_record.specs.declared.types.PrevRule.TheVariants.{Below}
 use Rattle.wal_reader.specs.Kept.{Kept}
 use Rattle.wal_reader.specs.Told.{Told}
-use Rattle.heap_redo.specs.Redone.{View}
+use Rattle.page_store.specs.Seen.{View}
 use Rattle.table_schema.specs.Description.{Description, locators}
 use Rattle.xact_redo.specs.State.{TransactionState, before_records}
 use Rattle.standby_model.specs.Log.{Described}

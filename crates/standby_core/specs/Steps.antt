@@ -11,7 +11,8 @@ use Rattle.wal_bodies.specs.declared.types.Rec.{Rec}
 use Rattle.wal_bodies.specs.declared.types.BodyFault.{BodyFault}
 use Rattle.wal_bodies.specs.declared.types.BodyFault.TheVariants as body
 use Rattle.heap_redo.specs.declared.fault.RedoFault.{RedoFault}
-use Rattle.heap_redo.specs.Redone.{RanOut, View, redone}
+use Rattle.page_store.specs.Seen.{View}
+use Rattle.heap_redo.specs.Redone.{RanOut, redone}
 use Rattle.xact_redo.specs.State.{state_after}
 use Rattle.table_schema.specs.Description.{locators}
 use Rattle.standby_core.specs.declared.types.Refusal.{Refusal}

@@ -1,7 +1,7 @@
 -- The node's own parts as contracts see them.
 use Rattle.std.specs.Prelude.{◌≡◌, ℕ, length, Option, IfSome, is_some, Result}
 use Rattle.page_store.specs.Content.{content, table_count}
-use Rattle.heap_redo.specs.Redone.{view_of}
+use Rattle.page_store.specs.Seen.{view_of}
 use Rattle.wal_reader.specs.Kept.{AreTold}
 use Rattle.xact_redo.specs.State.{transactions}
 use Rattle.standby_core.specs.declared.node.Node.{Node}
@@ -35,8 +35,8 @@ ReplaysTold told result old new =
     → AreTold byte new.kept × Replays result old new (record_at (told_to old byte) (described_to old) old.at.0 old.prev))
 
 -- where a node stands, on the first timeline
-unfoldable pub status_of : Standby → NodeStatus
-status_of node = record {
+unfoldable pub node_status : Standby → NodeStatus
+node_status node = record {
   tli = record { 0 = 1 };
   at = node.at;
   min = node.min;

@@ -3,7 +3,7 @@ ghost use Rattle.pg_types.specs.Names.{IsSegmentSize};
 ghost use Rattle.pg_types.specs.SegmentSizes.{IsSegmentSize-prop};
 ghost use Rattle.page_store.specs.Content.{content, table_count};
 ghost use Rattle.table_schema.specs.Description.{locators};
-ghost use Rattle.heap_redo.specs.Redone.{view_of};
+ghost use Rattle.page_store.specs.Seen.{view_of};
 ghost use Rattle.wal_bodies.specs.Xids.{AreXidsShort};
 ghost use Rattle.xact_redo.specs.State.{state_after, transactions};
 ghost use Rattle.standby_core.specs.Replay.{awaited_after, redo_refusal};
@@ -53,7 +53,7 @@ impl Node {
     ghost use Rattle.standby_core.specs.Standby.{at_origin};
     ghost use Rattle.standby_core.specs.Replay.{MovesOn, ReplaysSome, StaysUnlessApplied};
     ghost use Rattle.standby_core.specs.Steps.{EndsAt, GivenRedone, GivenReplays, Gives};
-    ghost use Rattle.standby_core.specs.View.{HasParts, ReplaysTold, standby, status_of};
+    ghost use Rattle.standby_core.specs.View.{HasParts, ReplaysTold, standby, node_status};
 
     /// A node at an origin, over a pool that was made for as many tables as are described. It awaits the end
     /// of the backup that began at the redo position.
@@ -89,9 +89,9 @@ impl Node {
     }
 
     /// Where the node stands. It takes no memory.
-    #[tactic(auto, unfolding(crate::specs::View::standby, crate::specs::View::status_of))]
+    #[tactic(auto, unfolding(crate::specs::View::standby, crate::specs::View::node_status))]
     pub fn status(&self) -> NodeStatus
-        ensures { result ≡ status_of (standby self.now) }
+        ensures { result ≡ node_status (standby self.now) }
     {
         NodeStatus {
             tli: Tli(1),

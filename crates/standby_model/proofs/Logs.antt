@@ -11,8 +11,9 @@ use Rattle.wal_bodies.specs.declared.types.BodyFault.{BodyFault}
 use Rattle.wal_bodies.specs.declared.types.Rec.{Rec}
 use Rattle.wal_record.specs.declared.types.RecordHead.{RecordHead}
 use Rattle.wal_bodies.specs.Typed.{formed, read_as, typed}
-use Rattle.standby_model.specs.Log.{Described, IsLog, Stands, Stop, end_of, link_after, next_of, record_at, typed_of, unless_refused}
-use Rattle.standby_model.specs.Laws.{LogRises, OneLog, Rises}
+use Rattle.wal_bodies.specs.Ends.{end_of, Rises}
+use Rattle.standby_model.specs.Log.{Described, IsLog, Stands, Stop, link_after, next_of, record_at, typed_of, unless_refused}
+use Rattle.standby_model.specs.Laws.{LogRises, OneLog}
 
 one_ok : {A E : Type 0} (r : Result A E) (a b : A) → r ≡ Ok a → r ≡ Ok b → a ≡ b
 one_ok r a b e f = cc

@@ -2,18 +2,14 @@
 use Rattle.std.specs.Prelude.{◌≡◌, ◌<◌, ℕ, List, [], ◌∷◌}
 use Rattle.wal_reader.specs.Told.{Told}
 use Rattle.wal_bodies.specs.declared.types.Rec.{Rec}
-use Rattle.standby_model.specs.Log.{Described, IsLog, Stands, Stop, end_of}
+use Rattle.wal_bodies.specs.Ends.{end_of, Rises}
+use Rattle.standby_model.specs.Log.{Described, IsLog, Stands, Stop}
 
 -- from a position one log is told, with one cause why it goes no further
 abbrev pub OneLog : Type 0
 OneLog =
     (told : Told) (described : Described) (from : ℕ) (log other : List Rec) (stop why : Stop)
     → IsLog told described from log stop → IsLog told described from other why → (log ≡ other) × (stop ≡ why)
-
--- each record ends behind the position where it was read
-abbrev pub Rises : ℕ → List Rec → Type 0
-Rises from [] = Unit {0}
-Rises from (rec ∷ older) = (end_of from older < rec.end.0) × Rises from older
 
 -- where segments have a size, a log that stands rises
 abbrev pub LogRises : Type 0

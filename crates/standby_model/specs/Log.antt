@@ -15,6 +15,7 @@ use Rattle.wal_bodies.specs.declared.types.What.{What}
 use Rattle.wal_bodies.specs.declared.types.BodyFault.{BodyFault}
 use Rattle.wal_bodies.specs.declared.types.BodyFault.TheVariants as body
 use Rattle.wal_bodies.specs.Typed.{typed}
+use Rattle.wal_bodies.specs.Ends.{end_of}
 
 -- what is described to a standby: its database, and the files of the tables in it
 pub record Described : Type 0 where
@@ -23,23 +24,23 @@ pub record Described : Type 0 where
 
 -- why a record is refused, whatever blocks it finds: it has a compressed page image, it is longer than 64 MiB, its body
 -- is shorter than its kind needs, or it is of a kind that is not supported
-pub data Refusal : Type 0 where
-  Compressed : Refusal
-  TooLong : Refusal
-  Length : Refusal
-  Unsupported : (what : What) → Refusal
+pub data RecordRefusal : Type 0 where
+  Compressed : RecordRefusal
+  TooLong : RecordRefusal
+  Length : RecordRefusal
+  Unsupported : (what : What) → RecordRefusal
 
 -- why the log goes no further: it ends by one of the reader's rules, or the next record is refused
 pub data Stop : Type 0 where
   Ended : (why : EndWhy) → Stop
-  Refused : (what : Refusal) → Stop
+  Refused : (what : RecordRefusal) → Stop
 
 abbrev pub stop_by : NoRecord → Stop
 stop_by (reader.End why) = Ended why
 stop_by reader.Compressed = Refused Compressed
 stop_by reader.TooLong = Refused TooLong
 
-abbrev pub refusal_by : BodyFault → Refusal
+abbrev pub refusal_by : BodyFault → RecordRefusal
 refusal_by body.Length = Length
 refusal_by (body.Unsupported what) = Unsupported what
 
@@ -59,11 +60,6 @@ typed_of described (Err why) = Err (stop_by why)
 -- the record at a position, after the one that the rule names; or why there is none
 abbrev pub record_at : Told → Described → ℕ → PrevRule → Result Rec Stop
 record_at told described at prev = typed_of described (step told at prev)
-
--- where a log that begins at a position ends, the newest record first
-abbrev pub end_of : ℕ → List Rec → ℕ
-end_of from [] = from
-end_of from (rec ∷ older) = rec.end.0
 
 -- the link that the next record has to have: to the newest record, and the first one below its own position
 abbrev pub link_after : List Rec → PrevRule

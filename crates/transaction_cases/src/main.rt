@@ -3,7 +3,7 @@
 //!
 //! A line `case NAME` of the standard input begins a case, with nothing known. Each line below it is a step, whose
 //! first word names the layer, in the words of PostgreSQL. The standard output repeats each step and gives the
-//! answer, whose expected text was worked out by hand from the rules of clog.c, subtrans.c, procarray.c, snapmgr.c,
+//! answer (a record has its notation and its bytes behind bars), whose expected text was worked out by hand from the rules of clog.c, subtrans.c, procarray.c, snapmgr.c,
 //! heapam_visibility.c and xact.c. Ids stand in lists with commas; `-` is an empty list.
 #![tactic(auto)]
 
@@ -16,7 +16,7 @@ mod session;
 mod snapshots;
 mod statuses;
 
-use case_text::{BadLine, Wrong, input, words};
+use case_text::{BadLine, Wrong, bytes, input, parts, words};
 use session::Session;
 
 fn main(rt: HostRuntime) -> anyhow::Result<()> {
@@ -36,7 +36,8 @@ fn answer(rt: &HostRuntime, session: &mut Session, line: &str) -> Result<(), Wro
     if line.starts_with('#') || line.is_empty() {
         return Ok(());
     }
-    let words = words(rt.alloc(), line)?;
+    let (asked, hex) = parts(line);
+    let words = words(rt.alloc(), asked)?;
     let words = words.as_slice();
     match *words {
         ["case", name] => {
@@ -44,10 +45,14 @@ fn answer(rt: &HostRuntime, session: &mut Session, line: &str) -> Result<(), Wro
             println!(rt; "{name}")?;
             Ok(())
         }
-        [layer, ..] => {
-            print!(rt; "  {line}:")?;
-            let (_, asked) = words.split_at(1);
-            step(rt, session, layer, asked)?;
+        [layer, ref question @ ..] => {
+            print!(rt; "  {asked}:")?;
+            if layer == "record" {
+                let data = bytes(rt.alloc(), hex)?;
+                records::answer(rt, &mut session.state, question, data.as_slice())?;
+            } else {
+                step(rt, session, layer, question)?;
+            }
             println!(rt)?;
             Ok(())
         }
@@ -55,14 +60,13 @@ fn answer(rt: &HostRuntime, session: &mut Session, line: &str) -> Result<(), Wro
     }
 }
 
-/// Asks the layer.
+/// Asks a layer that needs no record.
 fn step(rt: &HostRuntime, session: &mut Session, layer: &str, asked: &[&str]) -> Result<(), Wrong> {
     match layer {
         "clog" => statuses::answer(rt, &mut session.log, asked),
         "subtrans" => parents::answer(rt, &mut session.subs, asked),
         "known" => known::answer(rt, &mut session.known, asked),
         "snapshot" => snapshots::answer(rt, session, asked),
-        "record" => records::answer(rt, &mut session.state, asked),
         _ => Err(Wrong::Line),
     }
 }

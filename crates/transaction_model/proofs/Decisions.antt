@@ -7,7 +7,7 @@ use Rattle.known_assigned.specs.Ids.{is_among}
 use Rattle.known_assigned.specs.Known.{is_initialized}
 use Rattle.standby_snapshot.specs.Snapshot.{in_progress, is_running, take_of, xmin_of}
 use Rattle.transaction_model.specs.Transactions.{TransactionRecord, committed, ended, Live, IsXmin}
-use Rattle.transaction_model.specs.LegalTransactions.{Origin, Legal}
+use Rattle.transaction_model.specs.LegalTransactions.{TransactionOrigin, Legal}
 use Rattle.transaction_model.specs.StandbyStates.{StandbyState}
 use Rattle.subtrans.specs.declared.Pair.{Pair}
 use Rattle.subtrans.specs.Parents.{topmost_of}
@@ -17,7 +17,7 @@ use Rattle.transaction_model.proofs.Endings.{two_ended, live_not_committed, comm
 use Rattle.transaction_model.proofs.StandbyKept.{Accounted, InSet, ByParent, Ahead, InGap, TopAhead, gap_of}
 use Rattle.transaction_model.proofs.Replayed.{Standing}
 
-module _ (o : Origin) (shows : ℕ → Bool) (k : StandbyState) (log : List TransactionRecord) (legal : Legal o log)
+module _ (o : TransactionOrigin) (shows : ℕ → Bool) (k : StandbyState) (log : List TransactionRecord) (legal : Legal o log)
     (st : Standing o shows k log) (caught : (x : ℕ) → shows x ≡ true → ended o.at x log ≡ true) (ready : k.known.mode ≡ Ready) where
   begun : is_initialized k.known.mode ≡ false
   begun = ap is_initialized ready

@@ -2,24 +2,24 @@
 use Rattle.std.proofs.Common.{◌≡◌, ℕ, ◌<◌, ◌≤◌, Bool, true, false, ◌==◌, ◌||◌, List, [], ◌∷◌, ◌++◌, arith, refl, sym, ap, ◌∙◌, inl, inr, ◌⊎◌, nat_lt}
 use Rattle.std.proofs.lemmas.Bool.{or_cases, or_left, or_right, or_parts, or_from, ltb-true, both_ways, false_from_ne_true, false≢true}
 use Rattle.known_assigned.specs.Ids.{is_among}
-use Rattle.transaction_model.specs.Transactions.{Kind, Commit, Abort, Assignment, Running, Shutdown, Online, Other, TransactionRecord, Statuses, commits, finishes, ends, sees, committed, ended, Live, seen}
-use Rattle.transaction_model.specs.LegalTransactions.{Origin, OriginRule, IsNext, RuleOf, Legal, greatest_next, next_in}
+use Rattle.transaction_model.specs.Transactions.{Kind, Commit, Abort, Assignment, Running, Shutdown, Online, Other, TransactionRecord, Statuses, commits, finishes, ends, names, committed, ended, Live, named}
+use Rattle.transaction_model.specs.LegalTransactions.{TransactionOrigin, TransactionOriginRule, IsNext, RuleOf, Legal, greatest_next, next_in}
 use Rattle.transaction_model.proofs.IdSets.{among_cases, among_first}
 
-pub origin_rule : (o : Origin) (log : List TransactionRecord) → Legal o log → OriginRule o
+pub origin_rule : (o : TransactionOrigin) (log : List TransactionRecord) → Legal o log → TransactionOriginRule o
 unfolding Legal
 origin_rule o [] legal = legal
 origin_rule o (r ∷ older) (rule, legal) = origin_rule o older legal
 
-pub rule_of : (o : Origin) (r : TransactionRecord) (older : List TransactionRecord) → Legal o (r ∷ older) → RuleOf o r.xid r.kind older (r ∷ older)
+pub rule_of : (o : TransactionOrigin) (r : TransactionRecord) (older : List TransactionRecord) → Legal o (r ∷ older) → RuleOf o r.xid r.kind older (r ∷ older)
 unfolding Legal
 rule_of o r older (rule, legal) = rule
 
-pub legal_rest : (o : Origin) (r : TransactionRecord) (older : List TransactionRecord) → Legal o (r ∷ older) → Legal o older
+pub legal_rest : (o : TransactionOrigin) (r : TransactionRecord) (older : List TransactionRecord) → Legal o (r ∷ older) → Legal o older
 unfolding Legal
 legal_rest o r older (rule, legal) = legal
 
-pub legal_before : (o : Origin) (more life old : List TransactionRecord) → Legal o ((more ++ life) ++ old) → Legal o (life ++ old)
+pub legal_before : (o : TransactionOrigin) (more life old : List TransactionRecord) → Legal o ((more ++ life) ++ old) → Legal o (life ++ old)
 legal_before o [] life old legal = legal
 legal_before o (r ∷ more) life old legal = legal_before o more life old (legal_rest o r ((more ++ life) ++ old) legal)
 
@@ -62,12 +62,12 @@ live_after s x r older l e =
 abbrev pub written : ℕ → ℕ → ℕ → Kind → List TransactionRecord → List TransactionRecord
 written start end xid kind older = record { start = start; end = end; xid = xid; kind = kind } ∷ older
 
-abbrev pub TopsLive : Origin → List TransactionRecord → Type 0
+abbrev pub TopsLive : TransactionOrigin → List TransactionRecord → Type 0
 TopsLive o log = (x : ℕ) → Live o.at x log → Live o.at (o.top x) log
 
 -- no record ends a top transaction without its live subtransactions
 top_not_ended :
-    (o : Origin) (start end xid : ℕ) (kind : Kind) (older : List TransactionRecord) → OriginRule o
+    (o : TransactionOrigin) (start end xid : ℕ) (kind : Kind) (older : List TransactionRecord) → TransactionOriginRule o
     → RuleOf o xid kind older (written start end xid kind older) → (x : ℕ) → Live o.at x older
     → ended o.at x (written start end xid kind older) ≡ false → ends x xid kind ≡ false → ends (o.top x) xid kind ≡ false
 top_not_ended o start end xid (Commit subs) older origin rule x l e f =
@@ -101,7 +101,7 @@ top_not_ended o start end xid (Online redo next) older origin rule x l e f = ref
 top_not_ended o start end xid Other older origin rule x l e f = refl
 
 -- the top transaction of a live id is live
-pub live_top : (o : Origin) (log : List TransactionRecord) → Legal o log → TopsLive o log
+pub live_top : (o : TransactionOrigin) (log : List TransactionRecord) → Legal o log → TopsLive o log
 live_top o [] legal x l = (origin_rule o [] legal).top_live x l
 live_top o (r ∷ older) legal x l =
     let was = live_before o.at x r older l in
@@ -112,7 +112,7 @@ live_top o (r ∷ older) legal x l =
 
 -- a commit of a subtransaction is one of its top transaction
 commits_top :
-    (o : Origin) (start end xid : ℕ) (kind : Kind) (older : List TransactionRecord)
+    (o : TransactionOrigin) (start end xid : ℕ) (kind : Kind) (older : List TransactionRecord)
     → RuleOf o xid kind older (written start end xid kind older) → (x : ℕ) → commits x xid kind ≡ true
     → commits (o.top x) xid kind ≡ true
 commits_top o start end xid (Commit subs) older rule x h =
@@ -128,7 +128,7 @@ commits_top o start end xid (Online redo next) older rule x h = absurd (false≢
 commits_top o start end xid Other older rule x h = absurd (false≢true h)
 
 pub committed_top :
-    (o : Origin) (log : List TransactionRecord) → Legal o log → (x : ℕ) → 3 ≤ x → committed o.at x log ≡ true
+    (o : TransactionOrigin) (log : List TransactionRecord) → Legal o log → (x : ℕ) → 3 ≤ x → committed o.at x log ≡ true
     → committed o.at (o.top x) log ≡ true
 unfolding committed
 committed_top o [] legal x normal h = (origin_rule o [] legal).top_committed x normal h
@@ -182,7 +182,7 @@ two_ended s (r ∷ older) = or_right (ends 2 r.xid r.kind) (ended s 2 older) (tw
 
 -- only a live id commits
 commits_live :
-    (o : Origin) (start end xid : ℕ) (kind : Kind) (older : List TransactionRecord)
+    (o : TransactionOrigin) (start end xid : ℕ) (kind : Kind) (older : List TransactionRecord)
     → RuleOf o xid kind older (written start end xid kind older) → (x : ℕ) → commits x xid kind ≡ true → Live o.at x older
 commits_live o start end xid (Commit subs) older rule x h = rule.live x h
 commits_live o start end xid (Abort subs) older rule x h = absurd (false≢true h)
@@ -193,7 +193,7 @@ commits_live o start end xid (Online redo next) older rule x h = absurd (false�
 commits_live o start end xid Other older rule x h = absurd (false≢true h)
 
 pub committed_stays :
-    (o : Origin) (r : TransactionRecord) (older : List TransactionRecord) → Legal o (r ∷ older) → (x : ℕ)
+    (o : TransactionOrigin) (r : TransactionRecord) (older : List TransactionRecord) → Legal o (r ∷ older) → (x : ℕ)
     → (Live o.at x older → ⊥) → committed o.at x (r ∷ older) ≡ committed o.at x older
 unfolding committed
 committed_stays o r older legal x dead =
@@ -209,7 +209,7 @@ dead_after s [] life old x dead l = dead l
 dead_after s (r ∷ more) life old x dead l = dead_after s more life old x dead (live_before s x r ((more ++ life) ++ old) l)
 
 pub committed_no_more :
-    (o : Origin) (more life old : List TransactionRecord) → Legal o ((more ++ life) ++ old) → (x : ℕ)
+    (o : TransactionOrigin) (more life old : List TransactionRecord) → Legal o ((more ++ life) ++ old) → (x : ℕ)
     → (Live o.at x (life ++ old) → ⊥) → committed o.at x ((more ++ life) ++ old) ≡ committed o.at x (life ++ old)
 committed_no_more o [] life old legal x dead = refl
 committed_no_more o (r ∷ more) life old legal x dead =
@@ -220,20 +220,20 @@ committed_no_more o (r ∷ more) life old legal x dead =
 pub next_before :
     (s : Statuses) (n : ℕ) (r : TransactionRecord) (older : List TransactionRecord) → IsNext s n (r ∷ older)
     → IsNext s n older
-unfolding seen greatest_next
+unfolding named greatest_next
 next_before s n r older next =
     record {
       normal = next.normal;
-      above_seen = λ x h. next.above_seen x (or_right (sees x r.xid r.kind) (seen x older) h);
+      above_seen = λ x h. next.above_seen x (or_right (names x r.xid r.kind) (named x older) h);
       not_below = let h = next.not_below in omega arith;
       none_ended = λ x h. (not_ended_before s x r older (next.none_ended x h)).1;
     }
 
 pub next_above_seen :
     (s : Statuses) (n : ℕ) (r : TransactionRecord) (older : List TransactionRecord) → IsNext s n (r ∷ older)
-    → (x : ℕ) → sees x r.xid r.kind ≡ true → x < n
-unfolding seen
-next_above_seen s n r older next x h = next.above_seen x (or_left (sees x r.xid r.kind) (seen x older) h)
+    → (x : ℕ) → names x r.xid r.kind ≡ true → x < n
+unfolding named
+next_above_seen s n r older next x h = next.above_seen x (or_left (names x r.xid r.kind) (named x older) h)
 
 pub next_not_below :
     (s : Statuses) (n : ℕ) (r : TransactionRecord) (older : List TransactionRecord) → IsNext s n (r ∷ older)

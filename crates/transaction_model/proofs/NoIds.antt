@@ -4,7 +4,7 @@ use Rattle.std.proofs.lemmas.Bool.{eq-eqb, eqb-true, false_from_ne_true, false�
 use Rattle.known_assigned.specs.Ids.{is_among}
 use Rattle.known_assigned.specs.declared.state.RunningHead.{RunningHead}
 use Rattle.transaction_model.specs.Transactions.{TransactionRecord, ended}
-use Rattle.transaction_model.specs.LegalTransactions.{IsNext, Origin, RunningRule, SubsEnd}
+use Rattle.transaction_model.specs.LegalTransactions.{IsNext, TransactionOrigin, RunningRule, SubsEnd}
 
 -- a list of one id
 pub among_one : (x n : ℕ) → is_among x (n ∷ []) ≡ true → n ≡ x
@@ -32,7 +32,7 @@ nothing_head n m =
 
 -- a running record without ids, by which each id below its next one has ended
 pub nothing_rule :
-    (o : Origin) (n m : ℕ) (now : List TransactionRecord) → n ≤ m + 1 → IsNext o.at n now → SubsEnd o n now
+    (o : TransactionOrigin) (n m : ℕ) (now : List TransactionRecord) → n ≤ m + 1 → IsNext o.at n now → SubsEnd o n now
     → ended o.at m now ≡ true → RunningRule o (nothing_head n m) [] now
 nothing_rule o n m now last next ends latest =
     record {

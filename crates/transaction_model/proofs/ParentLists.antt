@@ -5,7 +5,7 @@ use Rattle.std.proofs.lemmas.Bool.{cases_Bool, cases_eq, true≢false, cases_ord
 use Rattle.known_assigned.specs.Ids.{is_among}
 use Rattle.subtrans.specs.declared.Pair.{Pair}
 use Rattle.subtrans.specs.Parents.{topmost_of, before_sub, after_sub, with_parent, from_sub}
-use Rattle.transaction_model.specs.LegalTransactions.{Origin, OriginRule, AreSubsOf}
+use Rattle.transaction_model.specs.LegalTransactions.{TransactionOrigin, TransactionOriginRule, AreSubsOf}
 use Rattle.transaction_model.specs.StandbyStates.{set_parents}
 use Rattle.transaction_model.proofs.IdSets.{among_first, among_later}
 
@@ -25,7 +25,7 @@ abbrev pub forgotten : ℕ → Parents → Parents
 forgotten bound parents x = cond (nat_lt x bound) None (parents x)
 
 -- each pair leads from a subtransaction to its top transaction
-abbrev pub AgreeAll : Origin → List Pair → Type 0
+abbrev pub AgreeAll : TransactionOrigin → List Pair → Type 0
 AgreeAll o [] = Unit {0}
 AgreeAll o (q ∷ pairs) = (o.top q.sub ≡ q.parent) × (q.parent < q.sub) × AgreeAll o pairs
 
@@ -152,24 +152,24 @@ from_sub_is pairs bound x =
     ]
 
 -- pairs keep agreeing
-agree_filter : (o : Origin) (t : Pair → Bool) (pairs : List Pair) → AgreeAll o pairs → AgreeAll o (filter t pairs)
+agree_filter : (o : TransactionOrigin) (t : Pair → Bool) (pairs : List Pair) → AgreeAll o pairs → AgreeAll o (filter t pairs)
 agree_filter o t [] agree = tt
 agree_filter o t (q ∷ pairs) (e, f, agree) =
     cond_both (t q) (q ∷ filter t pairs) (filter t pairs) (λ (l : List Pair). AgreeAll o l)
     (λ h. (e, f, agree_filter o t pairs agree)) (λ h. agree_filter o t pairs agree)
 
-agree_append : (o : Origin) (ps qs : List Pair) → AgreeAll o ps → AgreeAll o qs → AgreeAll o (ps ++ qs)
+agree_append : (o : TransactionOrigin) (ps qs : List Pair) → AgreeAll o ps → AgreeAll o qs → AgreeAll o (ps ++ qs)
 agree_append o [] qs a b = b
 agree_append o (p ∷ ps) qs (e, f, a) b = (e, f, agree_append o ps qs a b)
 
-agree_with : (o : Origin) (pairs : List Pair) (p : Pair) → AgreeAll o pairs → o.top p.sub ≡ p.parent → p.parent < p.sub
+agree_with : (o : TransactionOrigin) (pairs : List Pair) (p : Pair) → AgreeAll o pairs → o.top p.sub ≡ p.parent → p.parent < p.sub
     → AgreeAll o (with_parent pairs p)
 agree_with o pairs p agree e f =
     agree_append o (before_sub pairs p.sub) (p ∷ after_sub pairs p.sub)
     (agree_filter o (λ (q : Pair). nat_lt q.sub p.sub) pairs agree)
     (e, f, agree_filter o (λ (q : Pair). nat_lt p.sub q.sub) pairs agree)
 
-pub agree_set : (o : Origin) (top : ℕ) (subs : List ℕ) (pairs : List Pair) → AreSubsOf o top subs → AgreeAll o pairs
+pub agree_set : (o : TransactionOrigin) (top : ℕ) (subs : List ℕ) (pairs : List Pair) → AreSubsOf o top subs → AgreeAll o pairs
     → AgreeAll o (set_parents top subs pairs)
 unfolding set_parents
 agree_set o top [] pairs are agree = agree
@@ -180,12 +180,12 @@ agree_set o top (s ∷ subs) pairs are agree =
     (cond_both (nat_lt top s) (with_parent pairs (record { sub = s; parent = top })) pairs (λ (l : List Pair). AgreeAll o l)
     (λ h. agree_with o pairs (record { sub = s; parent = top }) agree e f) (λ h. agree))
 
-pub agree_from : (o : Origin) (pairs : List Pair) (bound : ℕ) → AgreeAll o pairs → AgreeAll o (from_sub pairs bound)
+pub agree_from : (o : TransactionOrigin) (pairs : List Pair) (bound : ℕ) → AgreeAll o pairs → AgreeAll o (from_sub pairs bound)
 agree_from o pairs bound agree = agree_filter o (λ (q : Pair). nat_le bound q.sub) pairs agree
 
 -- the topmost parent is the id itself, whose parent is not known, or its top transaction
 top_step :
-    (o : Origin) (x y : ℕ) (q : Pair) (above : List Pair) → OriginRule o → o.top q.sub ≡ q.parent → q.parent < q.sub
+    (o : TransactionOrigin) (x y : ℕ) (q : Pair) (above : List Pair) → TransactionOriginRule o → o.top q.sub ≡ q.parent → q.parent < q.sub
     → ((y ≡ x) × (parent_in above x ≡ None)) ⊎ (y ≡ o.top x)
     → ((cond (y == q.sub) q.parent y ≡ x) × (cond (q.sub == x) (Some q.parent) (parent_in above x) ≡ None))
     ⊎ (cond (y == q.sub) q.parent y ≡ o.top x)
@@ -207,7 +207,7 @@ top_step o x y q above origin e f (inr same) =
     inr (cond-false (y == q.sub) q.parent y (ne_eqb y q.sub other) ∙ same)
 
 pub topmost_is :
-    (o : Origin) (pairs : List Pair) → OriginRule o → AgreeAll o pairs → (x : ℕ)
+    (o : TransactionOrigin) (pairs : List Pair) → TransactionOriginRule o → AgreeAll o pairs → (x : ℕ)
     → ((topmost_of pairs x ≡ x) × (parent_in pairs x ≡ None)) ⊎ (topmost_of pairs x ≡ o.top x)
 unfolding topmost_of
 topmost_is o [] origin agree x = inl (refl, refl)

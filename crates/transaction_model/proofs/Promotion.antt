@@ -2,8 +2,8 @@
 use Rattle.std.proofs.Common.{◌≡◌, ℕ, ◌-◌, ◌<◌, ◌≤◌, max, true, List, [], ◌∷◌, ◌++◌, arith, refl, sym, ap, ◌∙◌, inl, inr, subst, nat_le}
 use Rattle.std.proofs.lemmas.Bool.{or_cases, or_from, cases_lt, false_from_ne_true, cond-true, cond-false, eqb-true, false≢true, le-leb, lt-leb, lt-ltb, ltb-true}
 use Rattle.known_assigned.specs.Ids.{is_among}
-use Rattle.transaction_model.specs.Transactions.{Kind, Commit, Abort, Assignment, Running, Shutdown, Online, Other, TransactionRecord, Statuses, ends, sees, committed, ended, Live, seen}
-use Rattle.transaction_model.specs.LegalTransactions.{Origin, OriginRule, IsNext, AreSubsOf, SubsEnd, RuleOf, Legal, greatest_next, next_in}
+use Rattle.transaction_model.specs.Transactions.{Kind, Commit, Abort, Assignment, Running, Shutdown, Online, Other, TransactionRecord, Statuses, ends, names, committed, ended, Live, named}
+use Rattle.transaction_model.specs.LegalTransactions.{TransactionOrigin, TransactionOriginRule, IsNext, AreSubsOf, SubsEnd, RuleOf, Legal, greatest_next, next_in}
 use Rattle.transaction_model.specs.Promotions.{next_past, promotion_next, nothing_runs, assigned_anew}
 use Rattle.transaction_model.specs.TransactionLaws.{OneXmin, PromotionLegal}
 use Rattle.transaction_model.proofs.IdSets.{among_first, among_later, up_to_greatest}
@@ -16,7 +16,7 @@ one_xmin s log a b p q =
     let h = p.least b q.live in
     let g = q.least a p.live in omega arith
 
-module _ (o : Origin) (n : ℕ) where
+module _ (o : TransactionOrigin) (n : ℕ) where
   -- below the next id the map is as before, from it on each id is its own top transaction
   top_below : (x : ℕ) → x < n → (assigned_anew n o).top x ≡ o.top x
   top_below x h = cond-false (nat_le n x) x (o.top x) (lt-leb n x h)
@@ -24,7 +24,7 @@ module _ (o : Origin) (n : ℕ) where
   top_anew : (x : ℕ) → n ≤ x → (assigned_anew n o).top x ≡ x
   top_anew x h = cond-true (nat_le n x) x (o.top x) (le-leb n x h)
 
-  anew_origin : OriginRule o → OriginRule (assigned_anew n o)
+  anew_origin : TransactionOriginRule o → TransactionOriginRule (assigned_anew n o)
   anew_origin origin =
       record {
         top_of_top = λ x.
@@ -151,7 +151,7 @@ module _ (o : Origin) (n : ℕ) where
       (rule_anew r.start r.end r.xid r.kind older next rule, legal_anew older (next_before o.at n r older next) legal)
 
 -- the next id of a promotion had not been assigned
-past_sees : (x xid : ℕ) (kind : Kind) → sees x xid kind ≡ true → x < next_past xid kind
+past_sees : (x xid : ℕ) (kind : Kind) → names x xid kind ≡ true → x < next_past xid kind
 past_sees x xid (Commit subs) h = let e = up_to_greatest x (xid ∷ subs) h in omega arith
 past_sees x xid (Abort subs) h = let e = up_to_greatest x (xid ∷ subs) h in omega arith
 past_sees x xid (Assignment top subs) h = let e = up_to_greatest x (xid ∷ subs) h in omega arith
@@ -170,7 +170,7 @@ past_next xid (Online redo next) = omega arith
 past_next xid Other = omega arith
 
 past_ends :
-    (o : Origin) (start end xid : ℕ) (kind : Kind) (older : List TransactionRecord)
+    (o : TransactionOrigin) (start end xid : ℕ) (kind : Kind) (older : List TransactionRecord)
     → RuleOf o xid kind older (written start end xid kind older) → (x : ℕ) → ends x xid kind ≡ true → x < next_past xid kind
 past_ends o start end xid (Commit subs) older rule x h = let e = up_to_greatest x (xid ∷ subs) h in omega arith
 past_ends o start end xid (Abort subs) older rule x h = let e = up_to_greatest x (xid ∷ subs) h in omega arith
@@ -186,14 +186,14 @@ past_ends o start end xid Other older rule x h = absurd (false≢true h)
 -- what had not been assigned before a record, and is past what the record names and ends, has not been with it
 next_with :
     (s : Statuses) (n : ℕ) (r : TransactionRecord) (older : List TransactionRecord) → IsNext s n older
-    → ((x : ℕ) → sees x r.xid r.kind ≡ true → x < n) → next_in r.kind ≤ n
+    → ((x : ℕ) → names x r.xid r.kind ≡ true → x < n) → next_in r.kind ≤ n
     → ((x : ℕ) → ends x r.xid r.kind ≡ true → x < n) → IsNext s n (r ∷ older)
-unfolding seen greatest_next ended
+unfolding named greatest_next ended
 next_with s n r older next sees_below not_below ends_below =
     record {
       normal = next.normal;
       above_seen = λ x h.
-          elim (or_cases (sees x r.xid r.kind) (seen x older) h) [ inl e ↦ sees_below x e | inr e ↦ next.above_seen x e ];
+          elim (or_cases (names x r.xid r.kind) (named x older) h) [ inl e ↦ sees_below x e | inr e ↦ next.above_seen x e ];
       not_below = let h = next.not_below in omega arith;
       none_ended = λ x h.
           or_from (ends x r.xid r.kind) (ended s x older)
@@ -211,7 +211,7 @@ next_higher s n m log h next =
     }
 
 promotion_is_next :
-    (o : Origin) (old life : List TransactionRecord) (control : ℕ) → Legal o (life ++ old) → IsNext o.at control old
+    (o : TransactionOrigin) (old life : List TransactionRecord) (control : ℕ) → Legal o (life ++ old) → IsNext o.at control old
     → IsNext o.at (promotion_next control life) (life ++ old)
 unfolding promotion_next
 promotion_is_next o old [] control legal next = next
@@ -226,7 +226,7 @@ promotion_is_next o old (r ∷ life) control legal next =
 
 -- by the running record of a promotion each id below its next one has ended
 nothing_runs_rule :
-    (o : Origin) (n start end : ℕ) (older : List TransactionRecord) → IsNext o.at n older
+    (o : TransactionOrigin) (n start end : ℕ) (older : List TransactionRecord) → IsNext o.at n older
     → RuleOf (assigned_anew n o) 0 (nothing_runs n) older (written start end 0 (nothing_runs n) older)
 nothing_runs_rule o n start end older next =
     let r : TransactionRecord = record { start = start; end = end; xid = 0; kind = nothing_runs n } in

@@ -7,7 +7,7 @@ use Rattle.known_assigned.specs.declared.state.State.TheVariants.{Initialized, P
 use Rattle.known_assigned.specs.Ids.{is_among, without, greatest}
 use Rattle.known_assigned.specs.Known.{Known, is_initialized, overflows, unobserved, after_observe, after_end, after_assign, past_oldest, made_anew, running_in, after_running, after_shutdown}
 use Rattle.transaction_model.specs.Transactions.{Kind, Commit, Abort, Assignment, Running, Shutdown, Online, Other, TransactionRecord, Statuses, finishes, ends, finished, ended, Live}
-use Rattle.transaction_model.specs.LegalTransactions.{Origin, OriginRule, IsNext, RuleOf, RunningRule, AssignmentRule, ShutdownRule, Legal}
+use Rattle.transaction_model.specs.LegalTransactions.{TransactionOrigin, TransactionOriginRule, IsNext, RuleOf, RunningRule, AssignmentRule, ShutdownRule, Legal}
 use Rattle.transaction_model.specs.StandbyStates.{Leads, MayForget, StandbyState, at_start, effect, forget_below, last_named, replay, set_parents, shown}
 use Rattle.subtrans.specs.Parents.{from_sub}
 use Rattle.transaction_model.proofs.ParentLists.{AgreeAll, Parents, agree_from, agree_set, forgotten, from_sub_is, parent_in, set_parents_is, with_top}
@@ -19,14 +19,14 @@ use Rattle.transaction_model.proofs.RunningKept.{running_in_kept, still_live, la
 
 -- the invariant of a state at a position: what it keeps, that known parents are top transactions, that the set is
 -- in rising order, and that no id observed is one that had not been assigned
-pub record Standing (o : Origin) (shows : ℕ → Bool) (k : StandbyState) (log : List TransactionRecord) : Type 0 where
+pub record Standing (o : TransactionOrigin) (shows : ℕ → Bool) (k : StandbyState) (log : List TransactionRecord) : Type 0 where
   pub kept : Kept o shows k.known (parent_in k.parents) log
   pub agree : AgreeAll o k.parents
   pub rising : Rising k.known.xids
   pub unassigned : (n : ℕ) → IsNext o.at n log → k.known.observed < n
 
 more_accounted :
-    (o : Origin) (shows shows' : ℕ → Bool) (k : Known) (parents : Parents) (x : ℕ) → Accounted o shows k parents x
+    (o : TransactionOrigin) (shows shows' : ℕ → Bool) (k : Known) (parents : Parents) (x : ℕ) → Accounted o shows k parents x
     → ((y : ℕ) → shows y ≡ true → shows' y ≡ true) → Accounted o shows' k parents x
 more_accounted o shows shows' k parents x (InSet h) more = InSet h
 more_accounted o shows shows' k parents x (ByParent p h l) more = ByParent p h l
@@ -36,7 +36,7 @@ more_accounted o shows shows' k parents x (TopAhead h) more = TopAhead (more (o.
 
 -- a commit log that shows more
 more_shown :
-    (o : Origin) (shows shows' : ℕ → Bool) (k : Known) (parents : Parents) (log : List TransactionRecord)
+    (o : TransactionOrigin) (shows shows' : ℕ → Bool) (k : Known) (parents : Parents) (log : List TransactionRecord)
     → Kept o shows k parents log → ((y : ℕ) → shows y ≡ true → shows' y ≡ true) → Kept o shows' k parents log
 more_shown o shows shows' k parents log kept more =
     record {
@@ -57,8 +57,8 @@ unfolding finished
 finished_shown s shows r older now before y h =
     elim (or_cases (finishes y r.xid r.kind) (finished s y older) h) [ inl e ↦ now y e | inr e ↦ before y e ]
 
-module _ (o : Origin) (shows shows' : ℕ → Bool) (k : Known) (parents : Parents) (start end xid : ℕ) (older : List TransactionRecord)
-    (origin : OriginRule o) (kept : Kept o shows k parents older) (more : (y : ℕ) → shows y ≡ true → shows' y ≡ true) where
+module _ (o : TransactionOrigin) (shows shows' : ℕ → Bool) (k : Known) (parents : Parents) (start end xid : ℕ) (older : List TransactionRecord)
+    (origin : TransactionOriginRule o) (kept : Kept o shows k parents older) (more : (y : ℕ) → shows y ≡ true → shows' y ≡ true) where
   -- a commit or an abort
   tree_kept :
       (kind : Kind) (out : List ℕ) → greatest out ≤ k.observed → ((y : ℕ) → ends y xid kind ≡ is_among y out)
@@ -155,7 +155,7 @@ shutdown_observed : (k : Known) (next n : ℕ) → k.observed < n → next ≤ n
 unfolding after_shutdown
 shutdown_observed k next n was now normal = omega arith
 
-top_below : (o : Origin) (top : ℕ) (subs : List ℕ) (n : ℕ) → AssignmentRule o top subs → ((y : ℕ) → is_among y subs ≡ true → y < n)
+top_below : (o : TransactionOrigin) (top : ℕ) (subs : List ℕ) (n : ℕ) → AssignmentRule o top subs → ((y : ℕ) → is_among y subs ≡ true → y < n)
     → top < n
 top_below o top [] n rule below = absurd (rule.some refl)
 top_below o top (x ∷ subs) n rule below =
@@ -175,7 +175,7 @@ oldest_below s r older low n next all =
 
 -- a record names no id that had not been assigned with it
 named_below :
-    (o : Origin) (start end xid : ℕ) (kind : Kind) (older : List TransactionRecord)
+    (o : TransactionOrigin) (start end xid : ℕ) (kind : Kind) (older : List TransactionRecord)
     → RuleOf o xid kind older (written start end xid kind older) → (n : ℕ)
     → IsNext o.at n (written start end xid kind older) → last_named xid kind < n
 named_below o start end xid (Commit subs) older rule n next =
@@ -210,8 +210,8 @@ named_below o start end xid Other older rule n next =
 
 -- each record keeps what a state keeps, once the ids that it names are observed
 effect_kept :
-    (o : Origin) (shows shows' : ℕ → Bool) (k : StandbyState) (start end xid : ℕ) (kind : Kind) (older : List TransactionRecord)
-    → OriginRule o → RuleOf o xid kind older (written start end xid kind older)
+    (o : TransactionOrigin) (shows shows' : ℕ → Bool) (k : StandbyState) (start end xid : ℕ) (kind : Kind) (older : List TransactionRecord)
+    → TransactionOriginRule o → RuleOf o xid kind older (written start end xid kind older)
     → TopsLive o (written start end xid kind older) → Kept o shows k.known (parent_in k.parents) older
     → last_named xid kind ≤ k.known.observed
     → ((n : ℕ) → IsNext o.at n (written start end xid kind older) → k.known.observed < n)
@@ -254,7 +254,7 @@ effect_kept o shows shows' k start end xid Other older origin rule tops kept rea
     (nothing_kept o shows k.known (parent_in k.parents) older kept (written start end xid Other older) (λ y. refl) (λ y. refl)) more
 
 effect_unassigned :
-    (o : Origin) (shows : ℕ → Bool) (k : StandbyState) (start end xid : ℕ) (kind : Kind) (older : List TransactionRecord)
+    (o : TransactionOrigin) (shows : ℕ → Bool) (k : StandbyState) (start end xid : ℕ) (kind : Kind) (older : List TransactionRecord)
     → RuleOf o xid kind older (written start end xid kind older) → (n : ℕ)
     → IsNext o.at n (written start end xid kind older) → k.known.observed < n
     → (effect shows xid kind k).known.observed < n
@@ -278,7 +278,7 @@ effect_unassigned o shows k start end xid Other older rule n next was = was
 
 -- the known parents stay top transactions
 effect_agrees :
-    (o : Origin) (shows : ℕ → Bool) (k : StandbyState) (start end xid : ℕ) (kind : Kind) (older : List TransactionRecord)
+    (o : TransactionOrigin) (shows : ℕ → Bool) (k : StandbyState) (start end xid : ℕ) (kind : Kind) (older : List TransactionRecord)
     → RuleOf o xid kind older (written start end xid kind older) → AgreeAll o k.parents
     → AgreeAll o (effect shows xid kind k).parents
 effect_agrees o shows k start end xid (Commit subs) older rule agree = agree
@@ -339,7 +339,7 @@ effect_rises shows k xid Other r = r
 
 -- one record of a legal log
 pub standing_after :
-    (o : Origin) (shows shows' : ℕ → Bool) (k : StandbyState) (r : TransactionRecord) (older : List TransactionRecord)
+    (o : TransactionOrigin) (shows shows' : ℕ → Bool) (k : StandbyState) (r : TransactionRecord) (older : List TransactionRecord)
     → Legal o (r ∷ older) → Standing o shows k older → ((y : ℕ) → shows y ≡ true → shows' y ≡ true)
     → ((y : ℕ) → finishes y r.xid r.kind ≡ true → shows' y ≡ true)
     → Standing o shows' (replay shows r.xid r.kind k) (r ∷ older)
@@ -363,7 +363,7 @@ standing_after o shows shows' k r older legal st more now =
 
 -- parents that are forgotten
 pub standing_forgotten :
-    (o : Origin) (shows : ℕ → Bool) (k : StandbyState) (log : List TransactionRecord) (bound : ℕ) → Legal o log
+    (o : TransactionOrigin) (shows : ℕ → Bool) (k : StandbyState) (log : List TransactionRecord) (bound : ℕ) → Legal o log
     → Standing o shows k log → MayForget bound k → Standing o shows (forget_below bound k) log
 standing_forgotten o shows k log bound legal st free =
     record {
@@ -379,7 +379,7 @@ standing_forgotten o shows k log bound legal st free =
 
 -- where a life begins
 pub standing_at_start :
-    (o : Origin) (first : ℕ → Bool) (old : List TransactionRecord) → ShowsFinished o.at first old → Standing o first at_start old
+    (o : TransactionOrigin) (first : ℕ → Bool) (old : List TransactionRecord) → ShowsFinished o.at first old → Standing o first at_start old
 standing_at_start o first old shows =
     record {
       kept =
@@ -407,14 +407,14 @@ pub shown_now : (first : ℕ → Bool) (r : TransactionRecord) (life : List Tran
 unfolding shown
 shown_now first r life y h = or_left (finishes y r.xid r.kind) (shown first life y) h
 
-shown_first : (o : Origin) (first : ℕ → Bool) (old : List TransactionRecord) → ShowsFinished o.at first old
+shown_first : (o : TransactionOrigin) (first : ℕ → Bool) (old : List TransactionRecord) → ShowsFinished o.at first old
     → Standing o (shown first []) at_start old
 unfolding shown
 shown_first o first old shows = standing_at_start o first old shows
 
 -- along a life
 pub standing_along :
-    (o : Origin) (first : ℕ → Bool) (old life : List TransactionRecord) (k : StandbyState) → Legal o (life ++ old)
+    (o : TransactionOrigin) (first : ℕ → Bool) (old life : List TransactionRecord) (k : StandbyState) → Legal o (life ++ old)
     → ShowsFinished o.at first old → Leads first life k → Standing o (shown first life) k (life ++ old)
 standing_along o first old [] k legal shows leads =
     subst (λ (m : StandbyState). Standing o (shown first []) m old) (sym leads) (shown_first o first old shows)

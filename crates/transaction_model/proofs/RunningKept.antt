@@ -7,7 +7,7 @@ use Rattle.known_assigned.specs.declared.state.State.TheVariants.{Initialized, P
 use Rattle.known_assigned.specs.Ids.{is_among, with_ids, greatest}
 use Rattle.known_assigned.specs.Known.{Known, is_initialized, overflows, made_anew, running_in}
 use Rattle.transaction_model.specs.Transactions.{TransactionRecord, ended, Live}
-use Rattle.transaction_model.specs.LegalTransactions.{Origin, OriginRule, RunningRule, IsSpanned}
+use Rattle.transaction_model.specs.LegalTransactions.{TransactionOrigin, TransactionOriginRule, RunningRule, IsSpanned}
 use Rattle.transaction_model.proofs.ParentLists.{Parents}
 use Rattle.transaction_model.proofs.IdSets.{in_with_ids, put_with_ids, in_filter, kept_by_filter, up_to_greatest, below_greatest}
 use Rattle.transaction_model.proofs.Endings.{TopsLive}
@@ -31,8 +31,8 @@ anew_with overflowed k head live last =
       mode = cond overflowed (Pending (record { 0 = head.next.0 - 1 })) Ready;
     }
 
-module _ (o : Origin) (shows : ℕ → Bool) (k : Known) (parents : Parents) (log : List TransactionRecord) (kept : Kept o shows k parents log)
-    (head : RunningHead) (xids : List ℕ) (origin : OriginRule o) (tops : TopsLive o log) (rule : RunningRule o head xids log)
+module _ (o : TransactionOrigin) (shows : ℕ → Bool) (k : Known) (parents : Parents) (log : List TransactionRecord) (kept : Kept o shows k parents log)
+    (head : RunningHead) (xids : List ℕ) (origin : TransactionOriginRule o) (tops : TopsLive o log) (rule : RunningRule o head xids log)
     (below : k.observed < head.next.0) (from_oldest : (y : ℕ) → Live o.at y log → head.oldest.0 ≤ y) where
   ended_below : (y : ℕ) → ended o.at y log ≡ true → y < head.next.0
   ended_below y h =

@@ -6,7 +6,7 @@ use Rattle.known_assigned.specs.declared.state.State.TheVariants.{Ready}
 use Rattle.known_assigned.specs.Ids.{is_among}
 use Rattle.standby_snapshot.specs.Snapshot.{SnapshotData, in_progress, no_parents, take_of, xmin_of}
 use Rattle.transaction_model.specs.Transactions.{Kind, Commit, Abort, Assignment, Running, Shutdown, Online, Other, TransactionRecord, Statuses, finishes, committed, ended, Live, state_of}
-use Rattle.transaction_model.specs.LegalTransactions.{Origin, Legal}
+use Rattle.transaction_model.specs.LegalTransactions.{TransactionOrigin, Legal}
 use Rattle.transaction_model.specs.StandbyStates.{Leads, LeadsOn, StandbyState, forget_below, replay, set_parents, shown}
 use Rattle.subtrans.specs.declared.Pair.{Pair}
 use Rattle.subtrans.specs.Parents.{from_sub, topmost_of}
@@ -37,7 +37,7 @@ caught_up s first old life caught x h = elim (shown_ended s first old life x h) 
 
 -- along the records after a snapshot
 standing_on :
-    (o : Origin) (first : ℕ → Bool) (old life more : List TransactionRecord) (k now : StandbyState) (xmin : ℕ)
+    (o : TransactionOrigin) (first : ℕ → Bool) (old life more : List TransactionRecord) (k now : StandbyState) (xmin : ℕ)
     → Legal o ((more ++ life) ++ old) → Standing o (shown first life) k (life ++ old) → LeadsOn first life k xmin more now
     → Standing o (shown first (more ++ life)) now ((more ++ life) ++ old)
 standing_on o first old life [] k now xmin legal st on =
@@ -102,7 +102,7 @@ xmin_is : (k : StandbyState) → (take_of k.known).xmin ≡ xmin_of k.known
 unfolding take_of
 xmin_is k = refl
 
-module _ (o : Origin) (first : ℕ → Bool) (old life more : List TransactionRecord) (k now : StandbyState)
+module _ (o : TransactionOrigin) (first : ℕ → Bool) (old life more : List TransactionRecord) (k now : StandbyState)
     (legal : Legal o ((more ++ life) ++ old)) (shows : ShowsFinished o.at first old) (caught : IsCaughtUp o.at first (life ++ old))
     (ready : state_of life ≡ Ready) (leads : Leads first life k) (on : LeadsOn first life k (take_of k.known).xmin more now) where
   at_opening : Legal o (life ++ old)

@@ -7,7 +7,7 @@ use Rattle.known_assigned.specs.declared.state.State.TheVariants.{Initialized, P
 use Rattle.known_assigned.specs.Ids.{is_among, without, greatest}
 use Rattle.known_assigned.specs.Known.{Known, is_initialized, unobserved, after_observe, after_end, after_assign, past_oldest, after_shutdown}
 use Rattle.transaction_model.specs.Transactions.{TransactionRecord, finished, ended, Live}
-use Rattle.transaction_model.specs.LegalTransactions.{Origin, OriginRule, AreSubsOf}
+use Rattle.transaction_model.specs.LegalTransactions.{TransactionOrigin, TransactionOriginRule, AreSubsOf}
 use Rattle.transaction_model.proofs.ParentLists.{Parents, with_top, forgotten}
 use Rattle.transaction_model.proofs.IdSets.{among_later, in_with_ids, kept_with_ids, put_with_ids, in_filter, kept_by_filter, in_without, kept_without, in_range, put_in_range, up_to_greatest}
 use Rattle.transaction_model.proofs.Endings.{TopsLive, two_ended}
@@ -21,14 +21,14 @@ gap_of Ready = 0
 -- how a live id is accounted for: it is in the set; its parent is known, and it is one of those that may be missing;
 -- the commit log is ahead of the position for it; it is a subtransaction that the first running record may miss; the
 -- commit log is ahead for its top transaction
-pub data Accounted (o : Origin) (shows : ℕ → Bool) (k : Known) (parents : Parents) (x : ℕ) : Type 0 where
+pub data Accounted (o : TransactionOrigin) (shows : ℕ → Bool) (k : Known) (parents : Parents) (x : ℕ) : Type 0 where
   InSet : is_among x k.xids ≡ true → Accounted o shows k parents x
   ByParent : (parent : ℕ) → parents x ≡ Some parent → x ≤ k.overflowed → Accounted o shows k parents x
   Ahead : shows x ≡ true → Accounted o shows k parents x
   InGap : x ≤ gap_of k.mode → o.top x < x → Accounted o shows k parents x
   TopAhead : shows (o.top x) ≡ true → Accounted o shows k parents x
 
-pub record Kept (o : Origin) (shows : ℕ → Bool) (k : Known) (parents : Parents) (log : List TransactionRecord) : Type 0 where
+pub record Kept (o : TransactionOrigin) (shows : ℕ → Bool) (k : Known) (parents : Parents) (log : List TransactionRecord) : Type 0 where
   pub shows_finished : (x : ℕ) → finished o.at x log ≡ true → shows x ≡ true
   pub set_live : (x : ℕ) → is_among x k.xids ≡ true → Live o.at x log
   pub ended_observed : is_initialized k.mode ≡ false → (x : ℕ) → ended o.at x log ≡ true → x ≤ k.observed
@@ -40,7 +40,7 @@ pub record Kept (o : Origin) (shows : ℕ → Bool) (k : Known) (parents : Paren
 
 -- an account is still one, where the set's ids, the parents and the gap's are still accounted for
 still_accounted :
-    (o : Origin) (shows shows' : ℕ → Bool) (k k' : Known) (parents parents' : Parents) (x : ℕ)
+    (o : TransactionOrigin) (shows shows' : ℕ → Bool) (k k' : Known) (parents parents' : Parents) (x : ℕ)
     → Accounted o shows k parents x → ((y : ℕ) → shows y ≡ true → shows' y ≡ true)
     → (is_among x k.xids ≡ true → Accounted o shows' k' parents' x)
     → ((parent : ℕ) → parents x ≡ Some parent → x ≤ k.overflowed → Accounted o shows' k' parents' x)
@@ -69,7 +69,7 @@ put_unobserved k x y begun low high =
     (λ e. absurd (both_ways (is_initialized k.mode) begun e))
     (λ e. put_in_range y (k.observed + 1) (x - k.observed) (omega arith) (omega arith))
 
-module _ (o : Origin) (shows : ℕ → Bool) (k : Known) (parents : Parents) (log : List TransactionRecord) (kept : Kept o shows k parents log) where
+module _ (o : TransactionOrigin) (shows : ℕ → Bool) (k : Known) (parents : Parents) (log : List TransactionRecord) (kept : Kept o shows k parents log) where
   -- the ids that no record had named are live
   new_live : (x y : ℕ) → is_among y (unobserved k x) ≡ true → Live o.at y log
   new_live x y h =
@@ -283,7 +283,7 @@ module _ (o : Origin) (shows : ℕ → Bool) (k : Known) (parents : Parents) (lo
 
   -- a parent that is forgotten, below every id of the set, is a transaction that the commit log shows ended
   top_of_forgotten :
-      OriginRule o → (y : ℕ) → Accounted o shows k parents (o.top y)
+      TransactionOriginRule o → (y : ℕ) → Accounted o shows k parents (o.top y)
       → (is_among (o.top y) k.xids ≡ true → ⊥) → Accounted o shows k (λ (z : ℕ). None) y
   top_of_forgotten origin y (InSet h) outside = absurd (outside h)
   top_of_forgotten origin y (ByParent p h l) outside =
@@ -295,7 +295,7 @@ module _ (o : Origin) (shows : ℕ → Bool) (k : Known) (parents : Parents) (lo
       TopAhead (subst (λ (z : ℕ). shows z ≡ true) (origin.top_of_top y) h)
 
   pub forget_kept :
-      OriginRule o → TopsLive o log → (bound : ℕ) → ((y : ℕ) → is_among y k.xids ≡ true → bound ≤ y)
+      TransactionOriginRule o → TopsLive o log → (bound : ℕ) → ((y : ℕ) → is_among y k.xids ≡ true → bound ≤ y)
       → Kept o shows k (forgotten bound parents) log
   forget_kept origin tops bound free =
       record {
@@ -327,7 +327,7 @@ module _ (o : Origin) (shows : ℕ → Bool) (k : Known) (parents : Parents) (lo
 
 -- the same parents by another name
 parents_accounted :
-    (o : Origin) (shows : ℕ → Bool) (k : Known) (parents parents' : Parents) (x : ℕ) → parents' x ≡ parents x
+    (o : TransactionOrigin) (shows : ℕ → Bool) (k : Known) (parents parents' : Parents) (x : ℕ) → parents' x ≡ parents x
     → Accounted o shows k parents x → Accounted o shows k parents' x
 parents_accounted o shows k parents parents' x same (InSet h) = InSet h
 parents_accounted o shows k parents parents' x same (ByParent p h l) = ByParent p (same ∙ h) l
@@ -336,7 +336,7 @@ parents_accounted o shows k parents parents' x same (InGap h l) = InGap h l
 parents_accounted o shows k parents parents' x same (TopAhead h) = TopAhead h
 
 pub same_parents :
-    (o : Origin) (shows : ℕ → Bool) (k : Known) (parents parents' : Parents) (log : List TransactionRecord)
+    (o : TransactionOrigin) (shows : ℕ → Bool) (k : Known) (parents parents' : Parents) (log : List TransactionRecord)
     → ((x : ℕ) → parents' x ≡ parents x) → Kept o shows k parents log → Kept o shows k parents' log
 same_parents o shows k parents parents' log same kept =
     record {

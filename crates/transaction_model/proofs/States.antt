@@ -7,7 +7,7 @@ use Rattle.known_assigned.specs.declared.state.State.TheVariants.{Initialized, P
 use Rattle.known_assigned.specs.Ids.{without, greatest}
 use Rattle.known_assigned.specs.Known.{Known, is_initialized, overflows, after_observe, after_end, after_assign, past_oldest, made_anew, running_in, after_running, after_shutdown}
 use Rattle.transaction_model.specs.Transactions.{Kind, Commit, Abort, Assignment, Running, Shutdown, Online, Other, TransactionRecord, first_next, settles, is_settled, unsettled, state_of}
-use Rattle.transaction_model.specs.LegalTransactions.{Origin, RuleOf, Legal}
+use Rattle.transaction_model.specs.LegalTransactions.{TransactionOrigin, RuleOf, Legal}
 use Rattle.transaction_model.specs.StandbyStates.{StandbyState, at_start, effect, last_named, replay, shown}
 use Rattle.transaction_model.specs.TransactionLaws.{StateAgrees}
 use Rattle.transaction_model.proofs.Endings.{rule_of, legal_rest, written}
@@ -131,7 +131,7 @@ start_agrees k e = ap (λ (m : StandbyState). m.known.mode) e
 
 -- the next id of a running record is a normal one
 first_is_normal :
-    (o : Origin) (start end xid : ℕ) (kind : Kind) (life old : List TransactionRecord)
+    (o : TransactionOrigin) (start end xid : ℕ) (kind : Kind) (life old : List TransactionRecord)
     → RuleOf o xid kind (life ++ old) (written start end xid kind (life ++ old)) → (n : ℕ)
     → ((m : ℕ) → first_next life ≡ Some m → 1 ≤ m) → first_next (written start end xid kind life) ≡ Some n → 1 ≤ n
 unfolding first_next
@@ -145,7 +145,7 @@ first_is_normal o start end xid (Online redo next) life old rule n was h = was n
 first_is_normal o start end xid Other life old rule n was h = was n h
 
 first_normal :
-    (o : Origin) (old life : List TransactionRecord) → Legal o (life ++ old) → (n : ℕ) → first_next life ≡ Some n → 1 ≤ n
+    (o : TransactionOrigin) (old life : List TransactionRecord) → Legal o (life ++ old) → (n : ℕ) → first_next life ≡ Some n → 1 ≤ n
 first_normal o old [] legal n h = none_is_none n h
 first_normal o old (r ∷ life) legal n h =
     first_is_normal o r.start r.end r.xid r.kind life old (rule_of o r (life ++ old) legal) n

@@ -4,8 +4,8 @@ use Rattle.std.proofs.lemmas.Bool.{both_ways, cases_Bool, cases_lt, eqb-true, fa
 use Rattle.known_assigned.specs.Known.{unobserved, after_observe, after_end, after_assign, past_oldest, made_anew, after_running}
 use Rattle.known_assigned.specs.Ids.{is_among}
 use Rattle.standby_snapshot.specs.Snapshot.{in_progress, take_of}
-use Rattle.transaction_model.specs.Transactions.{Assignment, Running, TransactionRecord, committed, finished, ended, Live, seen, first_next, is_settled, state_of}
-use Rattle.transaction_model.specs.LegalTransactions.{OriginRule, RunningRule, CommitRule, AssignmentRule, Legal, greatest_next}
+use Rattle.transaction_model.specs.Transactions.{Assignment, Running, TransactionRecord, committed, finished, ended, Live, named, first_next, is_settled, state_of}
+use Rattle.transaction_model.specs.LegalTransactions.{TransactionOriginRule, RunningRule, CommitRule, AssignmentRule, Legal, greatest_next}
 use Rattle.transaction_model.specs.StandbyStates.{Leads, StandbyState, at_start, forget_below, replay, set_parents, shown}
 use Rattle.subtrans.specs.Parents.{topmost_of}
 use Rattle.transaction_model.specs.WorkedLife.{worked_origin, worked_head, at_place, while_pending, at_opening, afterwards, worked_first, IsWorkedLife}
@@ -42,7 +42,7 @@ none_ended : (x : ℕ) → 3 ≤ x → ended worked_origin.at x [] ≡ false
 unfolding ended
 none_ended x normal = none_ended_at x normal
 
-worked_rule : OriginRule worked_origin
+worked_rule : TransactionOriginRule worked_origin
 unfolding committed
 worked_rule =
     record {
@@ -71,7 +71,7 @@ unfolding ended
 not_ended_at_first x normal = or_from (nat_lt x 3) (ended worked_origin.at x []) (le-ltb x 3 normal) (none_ended x normal)
 
 first_rule : RunningRule worked_origin (worked_head 5 3 2) (3 ∷ []) first_running
-unfolding ended seen greatest_next
+unfolding ended named greatest_next
 first_rule =
     record {
       is_next =
@@ -178,8 +178,8 @@ not_ended_at_second x normal =
     ]))
     (not_ended_at_first x (omega arith)))
 
-seen_at_second : (x : ℕ) → seen x second_running ≡ true → x < 6
-unfolding seen
+seen_at_second : (x : ℕ) → named x second_running ≡ true → x < 6
+unfolding named
 seen_at_second x h =
     elim (or_cases (0 == x) (is_among x (3 ∷ 4 ∷ []) || ((0 == x) || false)) h) [
       | inl e ↦ let f = eqb-true 0 x e in omega arith

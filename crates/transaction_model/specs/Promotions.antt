@@ -3,7 +3,7 @@
 use Rattle.std.specs.Prelude.{ℕ, ◌+◌, ◌-◌, max, false, List, [], ◌∷◌, nat_le, if◌then◌else◌}
 use Rattle.known_assigned.specs.Ids.{greatest}
 use Rattle.transaction_model.specs.Transactions.{Kind, Commit, Abort, Assignment, Running, Shutdown, Online, Other, TransactionRecord}
-use Rattle.transaction_model.specs.LegalTransactions.{Origin}
+use Rattle.transaction_model.specs.LegalTransactions.{TransactionOrigin}
 
 -- one past each id that a record names, and the next id of a running record or a checkpoint
 abbrev pub next_past : ℕ → Kind → ℕ
@@ -40,5 +40,5 @@ promoted next from middle to log =
     ∷ log
 
 -- the ids from the next one on are assigned anew: none of them is a subtransaction yet
-abbrev pub assigned_anew : ℕ → Origin → Origin
+abbrev pub assigned_anew : ℕ → TransactionOrigin → TransactionOrigin
 assigned_anew next o = record o { top = λ (x : ℕ). if nat_le next x then x else o.top x }

@@ -5,7 +5,7 @@ use Rattle.standby_snapshot.specs.Snapshot.{in_progress, no_parents, take_of}
 use Rattle.subtrans.specs.Parents.{topmost_of}
 use Rattle.known_assigned.specs.declared.state.State.TheVariants.{Ready}
 use Rattle.transaction_model.specs.Transactions.{Abort, Assignment, Commit, Kind, Online, Other, Running, Shutdown, TransactionRecord, Statuses, committed, finished, ended, Live, state_of, IsXmin}
-use Rattle.transaction_model.specs.LegalTransactions.{IsNext, Legal, Origin}
+use Rattle.transaction_model.specs.LegalTransactions.{IsNext, Legal, TransactionOrigin}
 use Rattle.transaction_model.specs.Promotions.{assigned_anew, promoted, promotion_next}
 use Rattle.transaction_model.specs.StandbyStates.{Leads, LeadsOn, StandbyState}
 
@@ -20,20 +20,20 @@ IsCaughtUp s first log = (x : ℕ) → first x ≡ true → ended s x log ≡ tr
 -- the state of the rules is that of the life
 abbrev pub StateAgrees : Type 0
 StateAgrees =
-    (o : Origin) (first : ℕ → Bool) (old life : List TransactionRecord) (k : StandbyState) → Legal o (life ++ old) → Leads first life k
+    (o : TransactionOrigin) (first : ℕ → Bool) (old life : List TransactionRecord) (k : StandbyState) → Legal o (life ++ old) → Leads first life k
     → k.known.mode ≡ state_of life
 
 -- where a standby knows the running transactions and has caught up, its snapshot's xmin is the least live id
 abbrev pub XminAgrees : Type 0
 XminAgrees =
-    (o : Origin) (first : ℕ → Bool) (old life : List TransactionRecord) (k : StandbyState) → Legal o (life ++ old)
+    (o : TransactionOrigin) (first : ℕ → Bool) (old life : List TransactionRecord) (k : StandbyState) → Legal o (life ++ old)
     → ShowsFinished o.at first old → IsCaughtUp o.at first (life ++ old) → state_of life ≡ Ready → Leads first life k
     → IsXmin o.at (take_of k.known).xmin (life ++ old)
 
 -- and each live id is in progress by the snapshot, whatever parents later records add or let forget
 abbrev pub LiveInProgress : Type 0
 LiveInProgress =
-    (o : Origin) (first : ℕ → Bool) (old life more : List TransactionRecord) (k now : StandbyState)
+    (o : TransactionOrigin) (first : ℕ → Bool) (old life more : List TransactionRecord) (k now : StandbyState)
     → Legal o ((more ++ life) ++ old) → ShowsFinished o.at first old → IsCaughtUp o.at first (life ++ old)
     → state_of life ≡ Ready → Leads first life k → LeadsOn first life k (take_of k.known).xmin more now
     → (x : ℕ) → Live o.at x (life ++ old) → in_progress (take_of k.known) (topmost_of now.parents) x ≡ true
@@ -42,7 +42,7 @@ LiveInProgress =
 -- where it had as the snapshot was taken
 abbrev pub SnapshotDecides : Type 0
 SnapshotDecides =
-    (o : Origin) (first : ℕ → Bool) (old life more : List TransactionRecord) (k now : StandbyState)
+    (o : TransactionOrigin) (first : ℕ → Bool) (old life more : List TransactionRecord) (k now : StandbyState)
     → Legal o ((more ++ life) ++ old) → ShowsFinished o.at first old → IsCaughtUp o.at first (life ++ old)
     → state_of life ≡ Ready → Leads first life k → LeadsOn first life k (take_of k.known).xmin more now
     → (x : ℕ)
@@ -65,7 +65,7 @@ NoneAssigned log = list_any (λ (r : TransactionRecord). is_assignment r.kind) l
 -- where none was assigned the ids alone decide
 abbrev pub IdsDecide : Type 0
 IdsDecide =
-    (o : Origin) (first : ℕ → Bool) (old life more : List TransactionRecord) (k now : StandbyState)
+    (o : TransactionOrigin) (first : ℕ → Bool) (old life more : List TransactionRecord) (k now : StandbyState)
     → Legal o ((more ++ life) ++ old) → ShowsFinished o.at first old → IsCaughtUp o.at first (life ++ old)
     → state_of life ≡ Ready → Leads first life k → LeadsOn first life k (take_of k.known).xmin more now
     → NoneAssigned (more ++ life) → (x : ℕ)
@@ -80,7 +80,7 @@ OneXmin = (s : Statuses) (log : List TransactionRecord) (a b : ℕ) → IsXmin s
 -- assigned anew; the control's next id had not been assigned where the life began
 abbrev pub PromotionLegal : Type 0
 PromotionLegal =
-    (o : Origin) (old life : List TransactionRecord) (control from middle to : ℕ) → Legal o (life ++ old)
+    (o : TransactionOrigin) (old life : List TransactionRecord) (control from middle to : ℕ) → Legal o (life ++ old)
     → IsNext o.at control old
     → Legal (assigned_anew (promotion_next control life) o)
     (promoted (promotion_next control life) from middle to (life ++ old))

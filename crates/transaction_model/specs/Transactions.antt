@@ -86,18 +86,18 @@ pub record Live (s : Statuses) (x : ℕ) (log : List TransactionRecord) : Type 0
   pub not_ended : ended s x log ≡ false
 
 -- a record names an id in its header, or in its commit, abort or assignment list
-abbrev pub sees : ℕ → ℕ → Kind → Bool
-sees x xid (Commit subs) = is_named xid subs x
-sees x xid (Abort subs) = is_named xid subs x
-sees x xid (Assignment top subs) = is_named xid subs x
-sees x xid (Running head xids) = xid == x
-sees x xid (Shutdown next) = xid == x
-sees x xid (Online redo next) = xid == x
-sees x xid Other = xid == x
+abbrev pub names : ℕ → ℕ → Kind → Bool
+names x xid (Commit subs) = is_named xid subs x
+names x xid (Abort subs) = is_named xid subs x
+names x xid (Assignment top subs) = is_named xid subs x
+names x xid (Running head xids) = xid == x
+names x xid (Shutdown next) = xid == x
+names x xid (Online redo next) = xid == x
+names x xid Other = xid == x
 
-unfoldable pub seen : ℕ → List TransactionRecord → Bool
-seen x [] = false
-seen x (r ∷ older) = sees x r.xid r.kind || seen x older
+unfoldable pub named : ℕ → List TransactionRecord → Bool
+named x [] = false
+named x (r ∷ older) = names x r.xid r.kind || named x older
 
 -- the next id of the first running record
 abbrev pub first_or : Kind → Option ℕ → Option ℕ

@@ -6,11 +6,11 @@ use Rattle.known_assigned.specs.declared.state.State.TheVariants.{Pending, Ready
 use Rattle.standby_snapshot.specs.Snapshot.{in_progress, take_of}
 use Rattle.subtrans.specs.Parents.{topmost_of}
 use Rattle.transaction_model.specs.Transactions.{Kind, Commit, Assignment, Running, Other, TransactionRecord, committed, state_of}
-use Rattle.transaction_model.specs.LegalTransactions.{Origin, Legal}
+use Rattle.transaction_model.specs.LegalTransactions.{TransactionOrigin, Legal}
 use Rattle.transaction_model.specs.StandbyStates.{Leads, StandbyState}
 
 -- nothing has committed or aborted, 4 will be a subtransaction of 3, and 6 of 5
-abbrev pub worked_origin : Origin
+abbrev pub worked_origin : TransactionOrigin
 worked_origin =
     record {
       at = record { is_committed = λ (x : ℕ). false; is_aborted = λ (x : ℕ). false };

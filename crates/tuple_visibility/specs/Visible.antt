@@ -7,7 +7,8 @@ use Rattle.pg_types.specs.declared.status.Unknown.{Unknown}
 use Rattle.standby_snapshot.specs.Snapshot.{SnapshotData, in_progress}
 use Rattle.heap_tuple.specs.declared.tuple_view.MaxOf.{MaxOf}
 use Rattle.heap_tuple.specs.declared.tuple_view.MaxOf.TheVariants.{None as NoDeleter, Xid as DeletedBy, Multi}
-use Rattle.heap_tuple.specs.Tuple.{xmin_of, infomask_of, has_bits, max_of}
+use Rattle.pg_types.specs.Numbers.{has_bits}
+use Rattle.heap_tuple.specs.Tuple.{xmin_of, infomask_of, max_of}
 
 -- whether a status says committed; a sub-committed one does not
 abbrev pub is_committed : Status → Bool

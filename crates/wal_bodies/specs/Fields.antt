@@ -17,10 +17,6 @@ abbrev pub result_map : {A B : Type 0} → (A → B) → Result A BodyFault → 
 result_map f (Err refusal) = Err refusal
 result_map f (Ok x) = Ok (f x)
 
--- the flag is set
-abbrev pub has : ℕ → ℕ → Bool
-has flags flag = not (bit_and flags flag == 0)
-
 -- a number of n bytes at the front, and what stands behind it
 unfoldable pub number_from : ℕ → List ℕ → Result (ℕ × List ℕ) BodyFault
 number_from n text = if nat_lt (length text) n then Err Length else Ok (number_at n text 0, drop n text)

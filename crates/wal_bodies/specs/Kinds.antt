@@ -1,7 +1,7 @@
 -- What the main data of a record says, by its resource manager (rmgrlist.h) and its info.
 use Rattle.std.specs.Prelude.{ℕ, ℤ, ◌+◌, ◌*◌, ◌==◌, not, ◌&&◌, ◌||◌, bit_and, nat_lt, nat_le, List, [], length, slice_index, Result, Ok, Err, if◌then◌else◌}
 use Rattle.std.specs.Int.{cast_signed, w32, w64}
-use Rattle.pg_types.specs.Numbers.{number_at}
+use Rattle.pg_types.specs.Numbers.{number_at, has_bits}
 use Rattle.pg_types.specs.declared.names.Locator.{Locator}
 use Rattle.pg_types.specs.declared.names.Xid.{Xid}
 use Rattle.wal_record.specs.Record.{Record}
@@ -10,7 +10,7 @@ use Rattle.wal_bodies.specs.declared.types.BodyFault.TheVariants.{Length, Unsupp
 use Rattle.wal_bodies.specs.declared.types.What.TheVariants.{Prepared, Minimal, PageWrites, Database, Epoch, NotYet}
 use Rattle.wal_bodies.specs.declared.types.RecKind.{RecKind}
 use Rattle.wal_bodies.specs.declared.types.RecKind.TheVariants.{Checkpoint, BackupEnd, Parameters, FullPageWrites, Images, Overwrite, Ended, Running, Other}
-use Rattle.wal_bodies.specs.Fields.{◌>>=◌, has, lsn_at, tli_at, xid_at, xids_at, number_from, behind}
+use Rattle.wal_bodies.specs.Fields.{◌>>=◌, lsn_at, tli_at, xid_at, xids_at, number_from, behind}
 use Rattle.wal_bodies.specs.HeapKinds.{heap_kind, heap2_kind}
 
 -- A checkpoint (CheckPoint, pg_control.h). Timelines other than the first are not read yet.
@@ -66,11 +66,11 @@ xlog_kind info main =
 
 -- xinfo, which is there with info bit 0x80 (XLOG_XACT_HAS_INFO)
 unfoldable pub xinfo_from : ℕ → List ℕ → Result (ℕ × List ℕ) BodyFault
-xinfo_from info text = if has info 0x80 then number_from 4 text else Ok (0, text)
+xinfo_from info text = if has_bits info 0x80 then number_from 4 text else Ok (0, text)
 
 -- the database and its tablespace, which are there with xinfo bit 0 (XACT_XINFO_HAS_DBINFO)
 unfoldable pub behind_database : ℕ → List ℕ → Result (List ℕ) BodyFault
-behind_database xinfo text = if has xinfo 1 then behind 8 text else Ok text
+behind_database xinfo text = if has_bits xinfo 1 then behind 8 text else Ok text
 
 -- a count of four bytes, which is not below 0, and what stands behind it
 unfoldable pub count_from : List ℕ → Result (ℕ × List ℕ) BodyFault
@@ -86,12 +86,12 @@ counted_xids text = do
 
 -- the subtransactions, which are there with xinfo bit 1 (XACT_XINFO_HAS_SUBXACTS)
 unfoldable pub subs_from : ℕ → List ℕ → Result (List Xid) BodyFault
-subs_from xinfo text = if has xinfo 2 then counted_xids text else Ok []
+subs_from xinfo text = if has_bits xinfo 2 then counted_xids text else Ok []
 
 -- what stands behind xinfo; files that are dropped, xinfo bit 2 (XACT_XINFO_HAS_RELFILELOCATORS), are not read yet
 unfoldable pub parts_by : ℕ → List ℕ → Result (List Xid) BodyFault
 parts_by xinfo text =
-    if has xinfo 4 then Err (Unsupported NotYet) else do
+    if has_bits xinfo 4 then Err (Unsupported NotYet) else do
       rest ← behind_database xinfo text
       subs_from xinfo rest
 

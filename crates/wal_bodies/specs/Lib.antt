@@ -1,8 +1,9 @@
+pub mod Ends
 pub mod Fields
-pub mod Kinds
 pub mod HeapKinds
+pub mod Kinds
+pub mod Laws
+pub mod Stored
 pub mod Tuples
 pub mod Typed
-pub mod Stored
 pub mod Xids
-pub mod Laws

@@ -1,14 +1,14 @@
 -- The tuples that a record puts into its block 0 (heapam_xlog.h, xl_heap_header and
 -- xl_multi_insert_tuple; heapam.c, heap_xlog_insert and its like).
 use Rattle.std.specs.Prelude.{ℕ, zero, suc, ◌+◌, ◌-◌, ◌%◌, Bool, false, nat_lt, ◌&&◌, ◌||◌, List, [], ◌∷◌, length, drop, take, slice_index, Option, Some, None, is_some, Result, Ok, Err, if◌then◌else◌}
-use Rattle.pg_types.specs.Numbers.{number_at}
+use Rattle.pg_types.specs.Numbers.{number_at, has_bits}
 use Rattle.wal_record.specs.Record.{Image, Block, Record}
 use Rattle.wal_bodies.specs.declared.types.BodyFault.{BodyFault}
 use Rattle.wal_bodies.specs.declared.types.BodyFault.TheVariants.{Length}
 use Rattle.wal_bodies.specs.declared.types.NewTuple.{NewTuple}
 use Rattle.wal_bodies.specs.declared.types.RecKind.{RecKind}
 use Rattle.wal_bodies.specs.declared.types.RecKind.TheVariants.{Checkpoint, BackupEnd, Parameters, FullPageWrites, Images, Overwrite, Ended, Running, Insert, Delete, Update, Confirm, Lock, MultiInsert, LockUpdated, Other}
-use Rattle.wal_bodies.specs.Fields.{◌>>=◌, has, number_from, main_block, needed}
+use Rattle.wal_bodies.specs.Fields.{◌>>=◌, number_from, main_block, needed}
 
 -- a tuple whose header's three fields stand at `at`, with these bytes behind them
 abbrev pub tuple_with : List ℕ → ℕ → ℕ → ℕ → List ℕ → NewTuple
@@ -28,7 +28,7 @@ inserted bytes =
 
 -- a length that the flag says is there, else 0
 unfoldable pub length_from : ℕ → ℕ → List ℕ → Result (ℕ × List ℕ) BodyFault
-length_from flags flag bytes = if has flags flag then number_from 2 bytes else Ok (0, bytes)
+length_from flags flag bytes = if has_bits flags flag then number_from 2 bytes else Ok (0, bytes)
 
 -- an update's tuple behind the two lengths: it has all its bytes up to the user data, at least
 unfoldable pub replaced : ℕ → ℕ → List ℕ → Result (List NewTuple) BodyFault
@@ -78,7 +78,7 @@ in_data block read = if is_applied block.image then Ok [] else read block.payloa
 
 -- parts of the old tuple are used
 abbrev pub borrows : ℕ → Bool
-borrows flags = has flags 0x20 || has flags 0x40
+borrows flags = has_bits flags 0x20 || has_bits flags 0x40
 
 -- the tuple of an insert
 unfoldable pub insert_tuples : Record → Result (List NewTuple) BodyFault

@@ -110,22 +110,3 @@ formed head start end (Err fault) = Err fault
 -- The typed form of a record that begins and ends at these positions, or the one answer why it has none.
 unfoldable pub typed : Record → Lsn → Lsn → ℕ → List Locator → Result Rec BodyFault
 typed rec start end database known = formed rec.head start end (read_as rec database known)
-
--- the record ends a transaction, and as a commit does (XLOG_XACT_COMMIT)
-abbrev pub is_commit : RecordHead → RecKind → Bool
-is_commit head (Checkpoint redo timeline previous writes next multi member oldest active) = false
-is_commit head (BackupEnd start) = false
-is_commit head (Parameters connections processes senders prepared locks level) = false
-is_commit head (FullPageWrites on) = false
-is_commit head Images = false
-is_commit head (Overwrite given_up time) = false
-is_commit head (Ended time xinfo xids) = bit_and head.info 0x70 == 0x00
-is_commit head (Running tops subs overflow next oldest latest xids) = false
-is_commit head (Insert line flags) = false
-is_commit head (Delete xmax line bits flags) = false
-is_commit head (Update old_xmax old_line old_bits flags new_xmax new_line) = false
-is_commit head (Confirm line) = false
-is_commit head (Lock xmax line bits flags) = false
-is_commit head (MultiInsert flags lines) = false
-is_commit head (LockUpdated xmax line bits flags) = false
-is_commit head Other = false

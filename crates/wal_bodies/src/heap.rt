@@ -9,7 +9,7 @@ use record_fields::{Lines, xid_at};
 use wal_record::{BlockView, RecordView};
 
 /// Of the bits that a record has for the mark of a tuple: xmax is a multixact (`XLHL_XMAX_IS_MULTI`).
-const IS_MULTI: u8 = 0x01;
+pub const IS_MULTI: u8 = 0x01;
 
 /// The kinds of heap records.
 #[tactic(auto, unfolding(crate::specs::HeapKinds::heap_kind))]

@@ -15,6 +15,7 @@ mod xact;
 mod xlog;
 
 pub use blocks::RecBlocks;
+pub use heap::IS_MULTI;
 pub use new_tuples::NewTuples;
 pub use rec::one_form;
 pub use record_fields::{Lines, RecBytes, Xids};

@@ -49,12 +49,12 @@ fn xinfo_from(info: u8, text: &[u8]) -> Result<(u32, &[u8]), BodyFault>
     if info & 0x80 == 0 {
         return Ok((0, text));
     }
-    long(text)
+    u32_in_front(text)
 }
 
 /// A number of four bytes, and what stands behind it.
 #[tactic(auto, unfolding(crate::specs::Fields::number_from))]
-fn long(text: &[u8]) -> Result<(u32, &[u8]), BodyFault>
+fn u32_in_front(text: &[u8]) -> Result<(u32, &[u8]), BodyFault>
     ensures { result_map (λ x. (x.0, x.1.now)) result ≡ number_from 4 text.now }
 {
     if text.len() < 4 {
@@ -106,7 +106,7 @@ fn subs_from<'a>(xinfo: u32, text: &'a [u8]) -> Result<Xids<'a>, BodyFault>
 fn count_from(text: &[u8]) -> Result<(u32, &[u8]), BodyFault>
     ensures { result_map (λ x. (x.0, x.1.now)) result ≡ count_from text.now }
 {
-    let (count, rest) = long(text)?;
+    let (count, rest) = u32_in_front(text)?;
     if 0x8000_0000 <= count {
         return Err(BodyFault::Length);
     }

@@ -1,8 +1,9 @@
-//! The log of timeline 1 as the files of an archive have it.
+//! Archives in memory: their files, and the log of timeline 1 as those have it.
 ghost use Rattle.std.specs.Prelude.{◌≡◌, true};
 ghost use Rattle.outside.specs.Faults.{HasCause, Rose};
 
-use case_text::{ShowHex, Wrong, bytes, number_u8, number_u64, position};
+use crate::memory_logs::ask;
+use case_text::{ShowHex, Wrong, bytes, number_u8, number_u64};
 use outside::{Archive, LogBytes, MemoryArchive, SteadyArchive};
 use pg_types::{Fail, Lsn};
 use wal_archive::ArchiveLog;
@@ -10,13 +11,14 @@ use wal_archive::ArchiveLog;
 /// The segments of these cases have 1 MiB.
 const SEGMENT: u32 = 0x10_0000;
 
-/// `file NAME HEX ..`, then `failing N`, then `ask L N ..`.
+/// `file NAME HEX ..`, then `failing CALL` or not, then `fetch NAME AT MOST ..` of files, or `ask L N ..` of
+/// the log.
 pub fn answer(rt: &HostRuntime, question: &[&str]) -> Result<(), Wrong> {
-    if let ["archive", "known-after-its-log", "failing", call] = *question {
+    if let ["known-after-its-log", "failing", call] = *question {
         return known_after(rt, number_u64(call)?);
     }
     let mut files = SteadyArchive::new(rt.alloc());
-    let (_, mut rest) = question.split_at(question.len().min(1));
+    let mut rest = question;
     for _ in 0..question.len() {
         match *rest {
             ["file", name, hex, ref behind @ ..] => {
@@ -30,9 +32,16 @@ pub fn answer(rt: &HostRuntime, question: &[&str]) -> Result<(), Wrong> {
     match *rest {
         ["failing", call, ref behind @ ..] => {
             let mut archive = MemoryArchive::new(rt.alloc(), files, &[number_u64(call)?])?;
-            ask_over(rt, &mut archive, behind)
+            asks(rt, &mut archive, behind)
         }
-        _ => ask_over(rt, &mut files, rest),
+        _ => asks(rt, &mut files, rest),
+    }
+}
+
+fn asks<A: Archive>(rt: &HostRuntime, archive: &mut A, asked: &[&str]) -> Result<(), Wrong> {
+    match *asked {
+        ["fetch", ..] => fetches(rt, archive, asked),
+        _ => ask_over(rt, archive, asked),
     }
 }
 
@@ -41,20 +50,19 @@ fn ask_over<A: Archive>(rt: &HostRuntime, archive: &mut A, asked: &[&str]) -> Re
     ask(rt, &mut log, asked)
 }
 
-/// Asks for bytes at positions, up to so many.
-fn ask<L: LogBytes>(rt: &HostRuntime, log: &mut L, asked: &[&str]) -> Result<(), Wrong> {
+/// `fetch NAME AT MOST ..`: reads so many bytes at most of each file, and then tells the faults.
+pub fn fetches<A: Archive>(rt: &HostRuntime, archive: &mut A, asked: &[&str]) -> Result<(), Wrong> {
     let mut rest = asked;
     for _ in 0..asked.len() {
         match *rest {
-            ["ask", at, most, ref behind @ ..] => {
-                ask_once(rt, log, position(at)?, number_u8(most)?)?;
+            ["fetch", name, at, most, ref behind @ ..] => {
+                fetch(rt, archive, name, number_u64(at)?, number_u8(most)?)?;
                 rest = behind;
             }
             _ => break,
         }
     }
-    let owner = log.owner(Lsn(0));
-    println!(rt; "timeline {}, {} faults", owner.0, log.faults())?;
+    println!(rt; "{} faults", archive.faults())?;
     if rest.is_empty() {
         Ok(())
     } else {
@@ -62,18 +70,32 @@ fn ask<L: LogBytes>(rt: &HostRuntime, log: &mut L, asked: &[&str]) -> Result<(),
     }
 }
 
-fn ask_once<L: LogBytes>(rt: &HostRuntime, log: &mut L, at: Lsn, most: u8) -> Result<(), Wrong> {
+fn fetch<A: Archive>(
+    rt: &HostRuntime,
+    archive: &mut A,
+    name: &str,
+    at: u64,
+    most: u8,
+) -> Result<(), Wrong> {
     let mut buf = [0u8; 255];
     let (front, _) = buf.split_at_mut(usize::from(most));
-    match log.bytes_at(at, front) {
-        Ok(count) => {
-            let (told, _) = front.split_at(count.min(front.len()));
-            print!(rt; "{}, ", ShowHex(told))?;
+    match archive.fetch(name, at, front) {
+        Ok(Some(count)) => {
+            let (read, _) = front.split_at(count.min(front.len()));
+            print!(rt; "{}, ", ShowHex(read))?;
         }
-        Err(Fail::Failed) => print!(rt; "failed, ")?,
-        Err(Fail::Memory) => print!(rt; "out of memory, ")?,
+        Ok(None) => print!(rt; "absent, ")?,
+        Err(fail) => print!(rt; "{}, ", failed(fail))?,
     }
     Ok(())
+}
+
+/// The word for a call that failed.
+pub fn failed(fail: Fail) -> &'static str {
+    match fail {
+        Fail::Failed => "failed",
+        Fail::Memory => "out of memory",
+    }
 }
 
 /// An archive without files is asked through a log that borrows it, and afterwards for its faults.

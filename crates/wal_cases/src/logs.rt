@@ -1,4 +1,5 @@
 //! What the reader reads of a log.
+use crate::memory_logs;
 use crate::records::prev_rule;
 use case_text::{ShowPosition, Wrong, number_u64, position};
 use outside::{MemoryLog, SteadyLog};
@@ -42,29 +43,33 @@ pub fn answer(rt: &HostRuntime, question: &[&str], text: &[u8]) -> Result<(), Wr
             ref asked @ ..,
         ] => {
             let (from, prev) = (position(from)?, prev_rule(before)?);
-            let mut log = log_of(rt.alloc(), from, text, 8192, &[number_u64(call)?])?;
+            let mut log = log_of(rt.alloc(), from, text, 8192, &CUTS, &[number_u64(call)?])?;
             let mut reader = reader_at(rt.alloc(), from, prev)?;
             let mut out = String::new(rt.alloc());
             ask(&mut out, &mut reader, &mut log, asked)?;
             println!(rt; "{out}")?;
             Ok(())
         }
+        ["log", "from", ref asked @ ..] => memory_logs::answer(rt, asked),
         _ => Err(Wrong::Line),
     }
 }
 
-fn log_of(
+/// A log in memory, whose answers are cut and fail at these places and calls.
+pub fn log_of(
     alloc: Global,
     from: Lsn,
     text: &[u8],
     most: usize,
+    cuts: &[u64],
     fails: &[u64],
 ) -> Result<MemoryLog, Wrong> {
     let steady = SteadyLog::new(alloc, from, text)?;
-    Ok(MemoryLog::new(alloc, steady, most, &CUTS, fails)?)
+    Ok(MemoryLog::new(alloc, steady, most, cuts, fails)?)
 }
 
-fn reader_at(alloc: Global, from: Lsn, prev: PrevRule) -> Result<Reader, Wrong> {
+/// A reader of such a log of system 7.
+pub fn reader_at(alloc: Global, from: Lsn, prev: PrevRule) -> Result<Reader, Wrong> {
     if !is_segment_size(SEGMENT) {
         return Err(Wrong::Line);
     }
@@ -79,7 +84,7 @@ fn read(
     text: &[u8],
     most: usize,
 ) -> Result<String, Wrong> {
-    let mut log = log_of(alloc, from, text, most, &[])?;
+    let mut log = log_of(alloc, from, text, most, &CUTS, &[])?;
     let mut reader = reader_at(alloc, from, prev)?;
     let mut out = String::new(alloc);
     for _ in 0..9u32 {
@@ -153,7 +158,7 @@ fn show_fault(out: &mut String, fault: ReadFault) -> Result<(), Wrong> {
     Ok(())
 }
 
-fn why_text(why: EndWhy) -> &'static str {
+pub fn why_text(why: EndWhy) -> &'static str {
     match why {
         EndWhy::Missing => "missing",
         EndWhy::Page => "page",

@@ -5,13 +5,17 @@
 #![tactic(auto)]
 
 mod archives;
+mod cuts;
 mod encodings;
+mod folders;
 mod headers;
 mod logs;
+mod memory_logs;
 mod records;
+mod sinks;
 mod vocabulary;
 
-use case_text::{BadLine, Wrong, bytes, input, words};
+use case_text::{BadLine, Wrong, bytes, input, parts, words};
 
 fn main(rt: HostRuntime) -> anyhow::Result<()> {
     let text = input(&rt)?;
@@ -21,7 +25,7 @@ fn main(rt: HostRuntime) -> anyhow::Result<()> {
             wrong,
         })?;
     }
-    Ok(())
+    Ok(cuts::answer_all(&rt)?)
 }
 
 /// Answers a case. A remark and an empty line are none.
@@ -34,36 +38,30 @@ fn answer(rt: &HostRuntime, line: &str) -> Result<(), Wrong> {
     let text = bytes(rt.alloc(), hex)?;
     let asked = asked.as_slice();
     match *asked {
-        [name, kind, ..] => {
+        [name, kind, ref behind @ ..] => {
             print!(rt; "{name} ")?;
             let (_, question) = asked.split_at(1);
-            layer(rt, kind, question, text.as_slice())
+            match kind {
+                "archive" => archives::answer(rt, behind),
+                "folder" => folders::answer(rt, behind),
+                "sink" => sinks::answer(rt, behind),
+                "output" => sinks::output(rt, behind),
+                _ => layer(rt, kind, question, text.as_slice()),
+            }
         }
         _ => Err(Wrong::Line),
     }
 }
 
-/// What is asked, and the hex behind the notation.
-fn parts(line: &str) -> (&str, &str) {
-    match line.split_once(" | ") {
-        Some((asked, rest)) => match rest.split_once(" | ") {
-            Some((_, hex)) => (asked, hex),
-            None => (asked, "-"),
-        },
-        None => (line, "-"),
-    }
-}
-
-/// Asks the layer whose kind of question it is.
+/// Asks the layer of the log whose kind of question it is.
 fn layer(rt: &HostRuntime, kind: &str, question: &[&str], text: &[u8]) -> Result<(), Wrong> {
     match kind {
-        "position" | "read-position" | "segment" | "lists" | "numbers" | "crc" => {
+        "position" | "read-position" | "segment" | "lists" | "numbers" | "crc" | "count" => {
             vocabulary::answer(rt, question)
         }
         "header" | "import-header" => headers::answer(rt, question, text),
         "head" | "decode" => records::answer(rt, question, text),
         "encode" => encodings::answer(rt, question, text),
-        "archive" => archives::answer(rt, question),
         "log" => logs::answer(rt, question, text),
         _ => Err(Wrong::Line),
     }

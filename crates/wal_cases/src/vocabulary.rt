@@ -3,6 +3,7 @@ ghost use Rattle.std.specs.Prelude.{IfSome};
 ghost use Rattle.pg_types.specs.Names.{IsSegmentSize};
 
 use case_text::{ShowHex, Wrong, bytes, number_u8, number_u32, number_u64};
+use outside::FaultCount;
 use pg_crc32c::crc32c;
 use pg_types::{Bytes, Lsn, SegmentName, Tli, Xid, XidList, segment_name, u16_at, u32_at, u64_at};
 
@@ -17,6 +18,9 @@ pub fn answer(rt: &HostRuntime, question: &[&str]) -> Result<(), Wrong> {
         ["lists", first, byte, last] => lists(rt, first, byte, last),
         ["numbers", text] => numbers(rt, text),
         ["crc", text] => checksum(rt, text),
+        ["count", "from", faults, "rises", times] => {
+            count(rt, number_u64(faults)?, number_u64(times)?)
+        }
         _ => Err(Wrong::Line),
     }
 }
@@ -138,5 +142,17 @@ fn checksum(rt: &HostRuntime, text: &str) -> Result<(), Wrong> {
         }
     }
     println!(rt; ", cut anywhere too")?;
+    Ok(())
+}
+
+/// A count of faults that stands at a number, and rises so many times.
+fn count(rt: &HostRuntime, faults: u64, times: u64) -> Result<(), Wrong> {
+    let mut count = FaultCount { faults };
+    print!(rt; "{}", count.value())?;
+    for _ in 0..times {
+        count.rise();
+        print!(rt; ", {}", count.value())?;
+    }
+    println!(rt)?;
     Ok(())
 }

@@ -3,7 +3,7 @@
 use Rattle.std.proofs.Common.{◌≡◌, ℕ, zero, suc, ◌+◌, ◌-◌, ◌*◌, ◌/◌, ◌%◌, ◌<◌, ◌≤◌, ◌==◌, Bool, true, false, Option, Some, None, Result, Ok, Err, List, ◌∷◌, ◌++◌, nat_lt, not, ◌&&◌, sym, subst, arith}
 use Rattle.std.proofs.Math.Nat.{div-add-mod, mod-lt}
 use Rattle.std.specs.Prelude.{if◌then◌else◌}
-use Rattle.pg_types.specs.Numbers.{number_at}
+use Rattle.pg_types.specs.Numbers.{number_at, has_bits}
 use Rattle.wal_page.specs.declared.PageHead.{PageHead}
 use Rattle.wal_page.specs.declared.PageFault.{PageFault}
 use Rattle.wal_page.specs.Page.{page_header}
@@ -18,7 +18,7 @@ use Rattle.wal_reader.specs.declared.types.Halt.TheVariants.{Stops, GivesUp}
 use Rattle.wal_reader.specs.declared.types.NoRecord.{NoRecord}
 use Rattle.wal_reader.specs.declared.types.NoRecord.TheVariants.{End, Compressed, TooLong}
 use Rattle.wal_reader.specs.Told.{Told, accepted, expected_at, header_at, page_header_length, read_at, told_bytes}
-use Rattle.wal_reader.specs.Gathered.{◌>>=◌, enters, gathered, goes_on, has, one_less, place_at, told_at}
+use Rattle.wal_reader.specs.Gathered.{◌>>=◌, enters, gathered, goes_on, one_less, place_at, told_at}
 use Rattle.wal_reader.specs.Step.{Entry, attempt, begun, begun_at, end_after, headed, in_place_of, is_kind, length_in, overwrites, rounded_up, step, unless_faulty, unless_given_up}
 use Rattle.wal_reader.specs.Log.{StepsOn}
 
@@ -74,7 +74,7 @@ enters_past :
     (head : PageHead) (missing : Option ℕ) (at behind : ℕ) → at ≤ behind → IsPast (λ (x : ℕ). x) at at (enters head missing behind)
 enters_past head None at behind le = le
 enters_past head (Some missing) at behind le =
-    tested_past (has head.info 8 && not (has head.info 1)) (has head.info 1 && head.rem == missing) at behind le
+    tested_past (has_bits head.info 8 && not (has_bits head.info 1)) (has_bits head.info 1 && head.rem == missing) at behind le
 
 place_past_when :
     (page : Bool) (told : Told) (missing : Option ℕ) (at : ℕ)

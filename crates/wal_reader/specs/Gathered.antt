@@ -7,23 +7,20 @@ use Rattle.wal_reader.specs.declared.types.Halt.TheVariants.{Stops, GivesUp}
 use Rattle.wal_reader.specs.declared.types.NoRecord.TheVariants.{End}
 use Rattle.wal_reader.specs.declared.types.EndWhy.TheVariants.{Missing, Page}
 use Rattle.wal_reader.specs.Told.{Told, header_at, page_header_length}
+use Rattle.pg_types.specs.Numbers.{has_bits}
 
 infixl 10 ◌>>=◌
 abbrev pub ◌>>=◌ : {A B : Type 0} → Result A Halt → (A → Result B Halt) → Result B Halt
 (Err halt) >>= f = Err halt
 (Ok x) >>= f = f x
 
--- the flag is set
-abbrev pub has : ℕ → ℕ → Bool
-has flags flag = not (bit_and flags flag == 0)
-
 -- The page goes on with a record of which so many bytes are missing: it says that it begins inside a
 -- record, and with how many bytes left. Where it says in place of this that the record was given up
 -- (XLP_FIRST_IS_OVERWRITE_CONTRECORD), another one begins behind its header.
 abbrev pub goes_on : PageHead → ℕ → ℕ → Result ℕ Halt
 goes_on head missing behind =
-    if has head.info 8 && not (has head.info 1) then Err (GivesUp behind)
-    else if has head.info 1 && head.rem == missing then Ok behind
+    if has_bits head.info 8 && not (has_bits head.info 1) then Err (GivesUp behind)
+    else if has_bits head.info 1 && head.rem == missing then Ok behind
     else Err (Stops (End Page))
 
 -- a record that begins on a page, or whose length is not known yet, needs no more than a header without fault

@@ -11,7 +11,7 @@ use Rattle.wal_record.specs.declared.parts.Part.TheVariants as part
 use Rattle.wal_record.specs.declared.parts.ImageHeader.{ImageHeader}
 use Rattle.wal_record.specs.declared.parts.BlockHeader.{BlockHeader}
 use Rattle.std.proofs.Common.{Option, Some, None}
-use Rattle.wal_record.specs.Parts.{has}
+use Rattle.pg_types.specs.Numbers.{has_bits}
 use Rattle.wal_record.specs.Spelling.{AreBytes, byte, short, long, image_text, locator_text, relation_text, part_text}
 use Rattle.byteorder.specs.Endian.{little_bytes}
 
@@ -60,7 +60,7 @@ image-bytes None = All-nil (λ b. b < 256)
 image-bytes (Some image) = both-bytes (short image.length) (short image.hole_at ++ byte image.info) (number-bytes 2 image.length) (both-bytes (short image.hole_at) (byte image.info) (number-bytes 2 image.hole_at) (number-bytes 1 image.info))
 
 relation-bytes : (block : BlockHeader) → AreBytes (relation_text block)
-relation-bytes block = by-flag (has block.flags 128)
+relation-bytes block = by-flag (has_bits block.flags 128)
   where
     by-flag : (b : Bool) → AreBytes (cond b [] (locator_text block.locator))
     by-flag true = All-nil (λ x. x < 256)

@@ -11,9 +11,10 @@ use Rattle.wal_record.specs.declared.new.NewBlock.{NewBlock}
 use Rattle.wal_record.specs.declared.new.NewImage.{NewImage}
 use Rattle.wal_record.specs.declared.types.RecordFault.{RecordFault}
 use Rattle.wal_record.specs.declared.parts.Part.TheVariants as part
-use Rattle.wal_record.specs.declared.parts.Seen.{Seen}
+use Rattle.wal_record.specs.declared.parts.HeadersRead.{HeadersRead}
 use Rattle.wal_record.specs.Record.{Image, Block, Record}
-use Rattle.wal_record.specs.Parts.{has, image_length, after, start, seen_after}
+use Rattle.pg_types.specs.Numbers.{has_bits}
+use Rattle.wal_record.specs.Parts.{image_length, after, start, seen_after}
 use Rattle.wal_record.specs.Decoded.{image_in, block_in, blocks_of}
 use Rattle.wal_record.specs.Spelling.{AreBytes, part_text, ImageAgrees, IsLocator, IsBlock, AreParts, IsSpelling}
 use Rattle.wal_record.specs.New.{flag, image_header_of, same_locator, is_same_relation, flags_of, header_of, block_parts, main_parts, image_bytes, payload_of, spelling_of, is_page_image, IsNewBlock, AreNewBlocks, new_size, HasSizes, image_of, block_of, EncodedIsRead}
@@ -29,19 +30,19 @@ true-is : (b : Bool) → IsTrue b → b ≡ true
 true-is b h = h
 
 -- the info of an image: a hole, and whether it is applied
-info-hole : (a b : Bool) → has (flag a 1 + flag b 2) 1 ≡ a
+info-hole : (a b : Bool) → has_bits (flag a 1 + flag b 2) 1 ≡ a
 info-hole true true = refl
 info-hole true false = refl
 info-hole false true = refl
 info-hole false false = refl
 
-info-apply : (a b : Bool) → has (flag a 1 + flag b 2) 2 ≡ b
+info-apply : (a b : Bool) → has_bits (flag a 1 + flag b 2) 2 ≡ b
 info-apply true true = refl
 info-apply true false = refl
 info-apply false true = refl
 info-apply false false = refl
 
-info-plain : (a b : Bool) → has (flag a 1 + flag b 2) 28 ≡ false
+info-plain : (a b : Bool) → has_bits (flag a 1 + flag b 2) 28 ≡ false
 info-plain true true = refl
 info-plain true false = refl
 info-plain false true = refl
@@ -86,7 +87,7 @@ size-by : (b : Bool) (n : ℕ) → b ≡ nat_lt 0 n → cond b (nat_lt 0 n) (n =
 size-by true n e = sym e
 size-by false n e = grind (arith, nat_tests)
 
-image-by : (flags : ℕ) (image : Option NewImage) → has flags 16 ≡ is_some image → IfSome image (λ i. IsTrue (is_page_image i)) → IfSome image (λ i. (i.hole_at < 2 ^ 16) × AreBytes i.bytes)
+image-by : (flags : ℕ) (image : Option NewImage) → has_bits flags 16 ≡ is_some image → IfSome image (λ i. IsTrue (is_page_image i)) → IfSome image (λ i. (i.hole_at < 2 ^ 16) × AreBytes i.bytes)
     → ImageAgrees flags (option_map image_header_of image)
 image-by flags None e page sizes = e
 image-by flags (Some image) e page sizes =
@@ -108,7 +109,7 @@ block-flags : (before : Option Locator) (block : NewBlock) → IsNewBlock block
     → FlagsAre (flags-of before block) block.fork (is_some block.image) (nat_lt 0 (length block.payload)) block.will_init (is_same_relation before block.locator)
 block-flags before block is = flags-are block.fork (is_some block.image) (nat_lt 0 (length block.payload)) block.will_init (is_same_relation before block.locator) is.fork
 
-new-header : (seen : Seen) (block : NewBlock) → IsNewBlock block → HasSizes block → seen.least_id ≤ block.id → IsBlock seen (header_of seen.locator block)
+new-header : (seen : HeadersRead) (block : NewBlock) → IsNewBlock block → HasSizes block → seen.least_id ≤ block.id → IsBlock seen (header_of seen.locator block)
 new-header seen block is sizes rising =
     let are = block-flags seen.locator block is in
     record {
@@ -116,21 +117,21 @@ new-header seen block is sizes rising =
       id_fits = is.id;
       flags_fit = are.fits;
       size_fits = is.payload;
-      size_agrees = size-by (has (flags-of seen.locator block) 32) (length block.payload) are.payload_is;
+      size_agrees = size-by (has_bits (flags-of seen.locator block) 32) (length block.payload) are.payload_is;
       image = image-by (flags-of seen.locator block) block.image are.image_is is.image sizes.image;
-      relation = relation-by seen.locator block.locator (has (flags-of seen.locator block) 128) are.same_is sizes.locator;
+      relation = relation-by seen.locator block.locator (has_bits (flags-of seen.locator block) 128) are.same_is sizes.locator;
       block_fits = sizes.block_fits;
     }
 
 -- ---- the parts of a record
 
-main-by : (seen : Seen) (n : ℕ) (none short : Bool) → seen.closed ≡ false → n < 2 ^ 32 → short ≡ nat_le n 255
+main-by : (seen : HeadersRead) (n : ℕ) (none short : Bool) → seen.closed ≡ false → n < 2 ^ 32 → short ≡ nat_le n 255
     → AreParts seen (cond none [] (cond short (part.ShortMain n ∷ []) (part.LongMain n ∷ [])))
 main-by seen n true short closed h e = tt
 main-by seen n false true closed h e = (let small : n ≤ 255 = le-from n 255 (sym e) in (closed, omega arith, tt))
 main-by seen n false false closed h e = (closed, h, tt)
 
-parted : (seen : Seen) (blocks : List NewBlock) (n : ℕ) → seen.closed ≡ false → AreNewBlocks seen.least_id blocks → All HasSizes blocks → n < 2 ^ 32
+parted : (seen : HeadersRead) (blocks : List NewBlock) (n : ℕ) → seen.closed ≡ false → AreNewBlocks seen.least_id blocks → All HasSizes blocks → n < 2 ^ 32
     → AreParts seen (block_parts seen.locator blocks ++ main_parts n)
 parted seen [] n closed are sizes h = main-by seen n (n == 0) (nat_le n 255) closed h refl
 parted seen (block ∷ blocks) n closed are sizes h = (
@@ -140,7 +141,7 @@ parted seen (block ∷ blocks) n closed are sizes h = (
 )
 
 -- the lengths that the parts tell
-main-told : (seen : Seen) (n : ℕ) (none short : Bool) → seen.main ≡ 0 → none ≡ (n == 0)
+main-told : (seen : HeadersRead) (n : ℕ) (none short : Bool) → seen.main ≡ 0 → none ≡ (n == 0)
     → ((seen_after seen (cond none [] (cond short (part.ShortMain n ∷ []) (part.LongMain n ∷ [])))).blocks ≡ seen.blocks)
     × ((seen_after seen (cond none [] (cond short (part.ShortMain n ∷ []) (part.LongMain n ∷ [])))).main ≡ n)
 main-told seen n true short h e = (let zero_is : n ≡ 0 = eq-from n 0 (sym e) in (refl, omega arith))
@@ -151,7 +152,7 @@ image-told : (image : Option NewImage) → image_length (option_map image_header
 image-told None = refl
 image-told (Some image) = refl
 
-told : (seen : Seen) (before : Option Locator) (blocks : List NewBlock) (n : ℕ) → seen.main ≡ 0
+told : (seen : HeadersRead) (before : Option Locator) (blocks : List NewBlock) (n : ℕ) → seen.main ≡ 0
     → ((seen_after seen (block_parts before blocks ++ main_parts n)).blocks ≡ seen.blocks + length (flat_map payload_of blocks))
     × ((seen_after seen (block_parts before blocks ++ main_parts n)).main ≡ n)
 told seen before [] n h =
@@ -190,7 +191,7 @@ block-read before block rest is =
     let text = image_bytes block.image ++ (block.payload ++ rest) in
     let image = option_map (λ i. image_in i text) (option_map image_header_of block.image) in
     let payload = take (length block.payload) (drop (image_length (option_map image_header_of block.image)) text) in
-    ap (λ (fork : ℕ). made fork (has (flags-of before block) 64) image payload) are.fork_is
+    ap (λ (fork : ℕ). made fork (has_bits (flags-of before block) 64) image payload) are.fork_is
     ∙ ap (λ (init : Bool). made block.fork init image payload) are.init_is
     ∙ ap (λ (i : Option Image). made block.fork block.will_init i payload) (image-read block.image (block.payload ++ rest))
     ∙ ap (λ (w : List ℕ). made block.fork block.will_init (option_map image_of block.image) w) (payload-read block rest)

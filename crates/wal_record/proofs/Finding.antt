@@ -5,7 +5,7 @@ use Rattle.std.proofs.lemmas.Option.{same_Some, cond_some}
 use Rattle.wal_record.specs.declared.parts.BlockHeader.{BlockHeader}
 use Rattle.wal_record.specs.declared.parts.Part.{Part}
 use Rattle.wal_record.specs.declared.parts.Part.TheVariants as part
-use Rattle.wal_record.specs.declared.parts.Seen.{Seen}
+use Rattle.wal_record.specs.declared.parts.HeadersRead.{HeadersRead}
 use Rattle.wal_record.specs.Record.{Block, block_by_id}
 use Rattle.wal_record.specs.Parts.{◌>>=◌, part_at, parts_from, parts_of, start, after, seen_after, image_length}
 use Rattle.wal_record.specs.Decoded.{walked_from, announced, IsParted, blocks_of, blocks_in, block_in, block_with_id}
@@ -13,27 +13,27 @@ use Rattle.wal_record.proofs.Walking.{is_done}
 use Rattle.wal_record.proofs.Comparisons.{eq-from}
 
 -- the parts that are left, up to n of them, and the block that is found among them
-pub record Leads (n : ℕ) (seen : Seen) (rest payloads : List ℕ) (id : ℕ) (found : Option Block) : Type 0 where
+pub record Finds (n : ℕ) (seen : HeadersRead) (rest payloads : List ℕ) (id : ℕ) (found : Option Block) : Type 0 where
   pub parts : List Part
   pub read : parts_from n seen rest ≡ Some (parts, payloads)
   pub fits : (seen_after seen parts).blocks + (seen_after seen parts).main ≡ length payloads
   pub same : block_by_id id (blocks_of parts (drop seen.blocks payloads)) ≡ found
 
 -- parts make the payloads no shorter
-pub blocks-after : (seen : Seen) (p : Part) → seen.blocks ≤ (after seen p).blocks
+pub blocks-after : (seen : HeadersRead) (p : Part) → seen.blocks ≤ (after seen p).blocks
 blocks-after seen (part.Block b) = omega arith
 blocks-after seen (part.Origin o) = omega arith
 blocks-after seen (part.TopXid x) = omega arith
 blocks-after seen (part.ShortMain l) = omega arith
 blocks-after seen (part.LongMain l) = omega arith
 
-pub blocks-seen_after : (seen : Seen) (parts : List Part) → seen.blocks ≤ (seen_after seen parts).blocks
+pub blocks-seen_after : (seen : HeadersRead) (parts : List Part) → seen.blocks ≤ (seen_after seen parts).blocks
 blocks-seen_after seen [] = omega arith
 blocks-seen_after seen (p ∷ parts) = omega (arith, blocks-after seen p, blocks-seen_after (after seen p) parts)
 
 begins-at : (text payloads : List ℕ) (id : ℕ) (read : Option (List Part × List ℕ)) → parts_of text ≡ read
-    → option_map announced (option_map {U = Seen × List ℕ} (λ x. (seen_after start x.0, x.1)) read) ≡ Some (length payloads, payloads)
-    → Leads (length text) start text payloads id (block_by_id id (unwrap_or (option_map (λ x. blocks_of x.0 payloads) read) []))
+    → option_map announced (option_map {U = HeadersRead × List ℕ} (λ x. (seen_after start x.0, x.1)) read) ≡ Some (length payloads, payloads)
+    → Finds (length text) start text payloads id (block_by_id id (unwrap_or (option_map (λ x. blocks_of x.0 payloads) read) []))
 begins-at text payloads id None e h = absurd (cc)
 begins-at text payloads id (Some x) e h =
     let both : announced (seen_after start x.0, x.1) ≡ (length payloads, payloads) = same_Some _ _ h in
@@ -46,50 +46,50 @@ begins-at text payloads id (Some x) e h =
     }
 
 -- the search begins with all parts
-pub begins : (text payloads : List ℕ) (id : ℕ) → IsParted text payloads → Leads (length text) start text payloads id (block_by_id id (blocks_in text payloads))
+pub begins : (text payloads : List ℕ) (id : ℕ) → IsParted text payloads → Finds (length text) start text payloads id (block_by_id id (blocks_in text payloads))
 unfolding walked_from blocks_in
 begins text payloads id h = begins-at text payloads id (parts_of text) refl h.payloads_there
 
-parts-none : (m n : ℕ) (seen : Seen) (rest : List ℕ) → m ≡ suc n → is_done seen rest ≡ false → part_at seen rest ≡ None → parts_from m seen rest ≡ None
+parts-none : (m n : ℕ) (seen : HeadersRead) (rest : List ℕ) → m ≡ suc n → is_done seen rest ≡ false → part_at seen rest ≡ None → parts_from m seen rest ≡ None
 unfolding parts_from
 parts-none m n seen rest k h none = rw (k, h, none) refl
 
-parts-next : (m n : ℕ) (seen : Seen) (rest : List ℕ) (p : Part) (behind : List ℕ) → m ≡ suc n → is_done seen rest ≡ false → part_at seen rest ≡ Some (p, behind)
+parts-next : (m n : ℕ) (seen : HeadersRead) (rest : List ℕ) (p : Part) (behind : List ℕ) → m ≡ suc n → is_done seen rest ≡ false → part_at seen rest ≡ Some (p, behind)
     → parts_from m seen rest ≡ (parts_from n (after seen p) behind >>= λ x. Some (p ∷ x.0, x.1))
 unfolding parts_from
 parts-next m n seen rest p behind k h some = rw (k, h, some) refl
 
-parts-done : (n : ℕ) (seen : Seen) (rest : List ℕ) → is_done seen rest ≡ true → parts_from n seen rest ≡ Some ([], rest)
+parts-done : (n : ℕ) (seen : HeadersRead) (rest : List ℕ) → is_done seen rest ≡ true → parts_from n seen rest ≡ Some ([], rest)
 unfolding parts_from
 parts-done zero seen rest h = refl
 parts-done (suc n) seen rest h = rw h refl
 
-parts-zero : (n : ℕ) (seen : Seen) (rest : List ℕ) → n ≡ 0 → parts_from n seen rest ≡ Some ([], rest)
+parts-zero : (n : ℕ) (seen : HeadersRead) (rest : List ℕ) → n ≡ 0 → parts_from n seen rest ≡ Some ([], rest)
 unfolding parts_from
 parts-zero n seen rest h = rw h refl
 
 -- each part can be read
-pub never-none : {m : ℕ} {seen : Seen} {rest payloads : List ℕ} {id : ℕ} {found : Option Block} (n : ℕ) → Leads m seen rest payloads id found → m ≡ suc n → is_done seen rest ≡ false
+pub never-none : {m : ℕ} {seen : HeadersRead} {rest payloads : List ℕ} {id : ℕ} {found : Option Block} (n : ℕ) → Finds m seen rest payloads id found → m ≡ suc n → is_done seen rest ≡ false
     → part_at seen rest ≡ None → ⊥
 never-none {m = m} {seen = seen} {rest = rest} n l k h none =
     let no : parts_from m seen rest ≡ None = parts-none m n seen rest k h none in
     let yes = l.read in
     cc
 
-none-left : {m : ℕ} {seen : Seen} {rest payloads : List ℕ} {id : ℕ} {found : Option Block} → Leads m seen rest payloads id found → parts_from m seen rest ≡ Some ([], rest) → found ≡ None
+none-left : {m : ℕ} {seen : HeadersRead} {rest payloads : List ℕ} {id : ℕ} {found : Option Block} → Finds m seen rest payloads id found → parts_from m seen rest ≡ Some ([], rest) → found ≡ None
 none-left {seen = seen} {payloads = payloads} {id = id} l h =
     let none : l.parts ≡ [] = ap (λ (x : List Part × List ℕ). x.0) (same_Some _ _ (sym l.read ∙ h)) in
     sym l.same ∙ ap (λ (parts : List Part). block_by_id id (blocks_of parts (drop seen.blocks payloads))) none
 
 -- where no more parts are read, the block is not there
-pub ends-done : {m : ℕ} {seen : Seen} {rest payloads : List ℕ} {id : ℕ} {found : Option Block} → Leads m seen rest payloads id found → is_done seen rest ≡ true → found ≡ None
+pub ends-done : {m : ℕ} {seen : HeadersRead} {rest payloads : List ℕ} {id : ℕ} {found : Option Block} → Finds m seen rest payloads id found → is_done seen rest ≡ true → found ≡ None
 ends-done {m = m} {seen = seen} {rest = rest} l h = none-left l (parts-done m seen rest h)
 
-pub ends-zero : {m : ℕ} {seen : Seen} {rest payloads : List ℕ} {id : ℕ} {found : Option Block} → Leads m seen rest payloads id found → m ≡ 0 → found ≡ None
+pub ends-zero : {m : ℕ} {seen : HeadersRead} {rest payloads : List ℕ} {id : ℕ} {found : Option Block} → Finds m seen rest payloads id found → m ≡ 0 → found ≡ None
 ends-zero {m = m} {seen = seen} {rest = rest} l h = none-left l (parts-zero m seen rest h)
 
 -- what is left begins with the part that is read
-pub record Next (n : ℕ) (seen : Seen) (p : Part) (behind payloads : List ℕ) (id : ℕ) (found : Option Block) : Type 0 where
+pub record Next (n : ℕ) (seen : HeadersRead) (p : Part) (behind payloads : List ℕ) (id : ℕ) (found : Option Block) : Type 0 where
   pub others : List Part
   pub read : parts_from n (after seen p) behind ≡ Some (others, payloads)
   pub fits : (seen_after (after seen p) others).blocks + (seen_after (after seen p) others).main ≡ length payloads
@@ -99,7 +99,7 @@ pub record Next (n : ℕ) (seen : Seen) (p : Part) (behind payloads : List ℕ) 
 abbrev again : Part → Option (List Part × List ℕ) → Option (List Part × List ℕ)
 again p read = read >>= λ x. Some (p ∷ x.0, x.1)
 
-next-at : (n : ℕ) (seen : Seen) (p : Part) (behind payloads : List ℕ) (id : ℕ) (found : Option Block) (parts : List Part) (read : Option (List Part × List ℕ))
+next-at : (n : ℕ) (seen : HeadersRead) (p : Part) (behind payloads : List ℕ) (id : ℕ) (found : Option Block) (parts : List Part) (read : Option (List Part × List ℕ))
     → parts_from n (after seen p) behind ≡ read → again p read ≡ Some (parts, payloads)
     → (seen_after seen parts).blocks + (seen_after seen parts).main ≡ length payloads
     → block_by_id id (blocks_of parts (drop seen.blocks payloads)) ≡ found
@@ -116,13 +116,13 @@ next-at n seen p behind payloads id found parts (Some x) e h fits same =
       same = let P : List Part → Type 0 = λ ps. block_by_id id (blocks_of ps (drop seen.blocks payloads)) ≡ found in subst P first same;
     }
 
-pub leads-next : {m : ℕ} {seen : Seen} {rest payloads : List ℕ} {id : ℕ} {found : Option Block} (n : ℕ) (p : Part) (behind : List ℕ) → Leads m seen rest payloads id found → m ≡ suc n
+pub leads-next : {m : ℕ} {seen : HeadersRead} {rest payloads : List ℕ} {id : ℕ} {found : Option Block} (n : ℕ) (p : Part) (behind : List ℕ) → Finds m seen rest payloads id found → m ≡ suc n
     → is_done seen rest ≡ false → part_at seen rest ≡ Some (p, behind) → Next n seen p behind payloads id found
 leads-next {m = m} {seen = seen} {rest = rest} {payloads = payloads} {id = id} {found = found} n p behind l k h some =
     next-at n seen p behind payloads id found l.parts (parts_from n (after seen p) behind) refl (sym (parts-next m n seen rest p behind k h some) ∙ l.read) l.fits l.same
 
 -- the block's payload is there
-pub payload-fits : {n : ℕ} {seen : Seen} {behind payloads : List ℕ} {id : ℕ} {found : Option Block} (b : BlockHeader) → Next n seen (part.Block b) behind payloads id found
+pub payload-fits : {n : ℕ} {seen : HeadersRead} {behind payloads : List ℕ} {id : ℕ} {found : Option Block} (b : BlockHeader) → Next n seen (part.Block b) behind payloads id found
     → (seen.blocks ≤ length payloads) × (image_length b.image + b.data_length ≤ length (drop seen.blocks payloads))
 payload-fits {seen = seen} {payloads = payloads} b l =
     let rising : (after seen (part.Block b)).blocks ≤ (seen_after (after seen (part.Block b)) l.others).blocks = blocks-seen_after (after seen (part.Block b)) l.others in
@@ -130,13 +130,13 @@ payload-fits {seen = seen} {payloads = payloads} b l =
     (omega arith, omega (arith, length-drop seen.blocks payloads))
 
 -- the block with the id is the one that is found
-pub found-here : {n : ℕ} {seen : Seen} {behind payloads : List ℕ} {id : ℕ} {found : Option Block} (b : BlockHeader) → Next n seen (part.Block b) behind payloads id found
+pub found-here : {n : ℕ} {seen : HeadersRead} {behind payloads : List ℕ} {id : ℕ} {found : Option Block} (b : BlockHeader) → Next n seen (part.Block b) behind payloads id found
     → (b.id == id) ≡ true → found ≡ Some (block_in b (drop seen.blocks payloads))
 found-here {seen = seen} {payloads = payloads} {id = id} b l h =
     let same : cond (b.id == id) (Some (block_in b (drop seen.blocks payloads))) (block_by_id id (blocks_of l.others (drop (image_length b.image + b.data_length) (drop seen.blocks payloads)))) ≡ _ = l.same in
     sym (rw h at same)
 
-drop-behind : (b : BlockHeader) (seen : Seen) (payloads : List ℕ) → drop (image_length b.image + b.data_length) (drop seen.blocks payloads) ≡ drop (after seen (part.Block b)).blocks payloads
+drop-behind : (b : BlockHeader) (seen : HeadersRead) (payloads : List ℕ) → drop (image_length b.image + b.data_length) (drop seen.blocks payloads) ≡ drop (after seen (part.Block b)).blocks payloads
 drop-behind b seen payloads =
     drop-drop (image_length b.image + b.data_length) seen.blocks payloads ∙ ap (λ (k : ℕ). drop k payloads) (omega arith)
 
@@ -145,7 +145,7 @@ left-over true b x others found h same = absurd (cc)
 left-over false b x others found h same = same
 
 -- another part leaves what is found to the others
-same-behind : (seen : Seen) (p : Part) (payloads : List ℕ) (id : ℕ) (others : List Part) (found : Option Block) → block_with_id id p ≡ None
+same-behind : (seen : HeadersRead) (p : Part) (payloads : List ℕ) (id : ℕ) (others : List Part) (found : Option Block) → block_with_id id p ≡ None
     → block_by_id id (blocks_of (p ∷ others) (drop seen.blocks payloads)) ≡ found → block_by_id id (blocks_of others (drop (after seen p).blocks payloads)) ≡ found
 same-behind seen (part.Block b) payloads id others found h same =
     ap (λ (rest : List ℕ). block_by_id id (blocks_of others rest)) (sym (drop-behind b seen payloads))
@@ -155,8 +155,8 @@ same-behind seen (part.TopXid x) payloads id others found h same = same
 same-behind seen (part.ShortMain l) payloads id others found h same = same
 same-behind seen (part.LongMain l) payloads id others found h same = same
 
-pub leads-on : {n : ℕ} {seen : Seen} {p : Part} {behind payloads : List ℕ} {id : ℕ} {found : Option Block} → Next n seen p behind payloads id found → block_with_id id p ≡ None
-    → Leads n (after seen p) behind payloads id found
+pub leads-on : {n : ℕ} {seen : HeadersRead} {p : Part} {behind payloads : List ℕ} {id : ℕ} {found : Option Block} → Next n seen p behind payloads id found → block_with_id id p ≡ None
+    → Finds n (after seen p) behind payloads id found
 leads-on {seen = seen} {p = p} {payloads = payloads} {id = id} {found = found} l h = record {
   parts = l.others;
   read = l.read;
@@ -175,13 +175,13 @@ with-id id (part.ShortMain l) b h = absurd (cc)
 with-id id (part.LongMain l) b h = absurd (cc)
 
 -- the part that is read is the block that is sought
-pub record Here (seen : Seen) (b : BlockHeader) (payloads : List ℕ) (id : ℕ) (found : Option Block) : Type 0 where
+pub record Here (seen : HeadersRead) (b : BlockHeader) (payloads : List ℕ) (id : ℕ) (found : Option Block) : Type 0 where
   pub begins : seen.blocks ≤ length payloads
   pub fits : image_length b.image + b.data_length ≤ length (drop seen.blocks payloads)
   pub same_id : b.id ≡ id
   pub same : found ≡ Some (block_in b (drop seen.blocks payloads))
 
-pub is-here : {n : ℕ} {seen : Seen} {p : Part} {behind payloads : List ℕ} {id : ℕ} {found : Option Block} (b : BlockHeader) → Next n seen p behind payloads id found → block_with_id id p ≡ Some b
+pub is-here : {n : ℕ} {seen : HeadersRead} {p : Part} {behind payloads : List ℕ} {id : ℕ} {found : Option Block} (b : BlockHeader) → Next n seen p behind payloads id found → block_with_id id p ≡ Some b
     → Here seen b payloads id found
 is-here {n = n} {seen = seen} {p = p} {behind = behind} {payloads = payloads} {id = id} {found = found} b l h =
     let here = with-id id p b h in

@@ -1,7 +1,7 @@
 -- The flags of a new block: what each of them says.
 use Rattle.std.proofs.Common.{◌≡◌, ℕ, zero, suc, ◌+◌, ◌<◌, Bool, true, false, ◌&&◌, not, cond, refl, arith, bit_and, nat_lt, inl, inr, ◌==◌}
 use Rattle.std.proofs.lemmas.Bool.{cases_lt}
-use Rattle.wal_record.specs.Parts.{has}
+use Rattle.pg_types.specs.Numbers.{has_bits}
 use Rattle.wal_record.specs.New.{flag}
 use Rattle.wal_record.proofs.Comparisons.{lt-from, eq-from, and-parts}
 
@@ -36,14 +36,14 @@ same_truth a b = cond a b (not b)
 
 abbrev passes : ℕ → ℕ → Bool → Bool → Bool → Bool → Bool
 passes flags fork image payload init same =
-    (bit_and flags 15 == fork) && (same_truth (has flags 16) image && (same_truth (has flags 32) payload && (same_truth (has flags 64) init && (same_truth (has flags 128) same && nat_lt flags 256))))
+    (bit_and flags 15 == fork) && (same_truth (has_bits flags 16) image && (same_truth (has_bits flags 32) payload && (same_truth (has_bits flags 64) init && (same_truth (has_bits flags 128) same && nat_lt flags 256))))
 
 pub record FlagsAre (flags fork : ℕ) (image payload init same : Bool) : Type 0 where
   pub fork_is : bit_and flags 15 ≡ fork
-  pub image_is : has flags 16 ≡ image
-  pub payload_is : has flags 32 ≡ payload
-  pub init_is : has flags 64 ≡ init
-  pub same_is : has flags 128 ≡ same
+  pub image_is : has_bits flags 16 ≡ image
+  pub payload_is : has_bits flags 32 ≡ payload
+  pub init_is : has_bits flags 64 ≡ init
+  pub same_is : has_bits flags 128 ≡ same
   pub fits : flags < 256
 
 truth-from : (a b : Bool) → same_truth a b ≡ true → a ≡ b
@@ -55,16 +55,16 @@ truth-from false false h = refl
 read-off : (flags fork : ℕ) (image payload init same : Bool) → passes flags fork image payload init same ≡ true → FlagsAre flags fork image payload init same
 read-off flags fork image payload init same h =
     let a = and-parts (bit_and flags 15 == fork) _ h in
-    let b = and-parts (same_truth (has flags 16) image) _ a.1 in
-    let d = and-parts (same_truth (has flags 32) payload) _ b.1 in
-    let e = and-parts (same_truth (has flags 64) init) _ d.1 in
-    let g = and-parts (same_truth (has flags 128) same) (nat_lt flags 256) e.1 in
+    let b = and-parts (same_truth (has_bits flags 16) image) _ a.1 in
+    let d = and-parts (same_truth (has_bits flags 32) payload) _ b.1 in
+    let e = and-parts (same_truth (has_bits flags 64) init) _ d.1 in
+    let g = and-parts (same_truth (has_bits flags 128) same) (nat_lt flags 256) e.1 in
     record {
       fork_is = eq-from (bit_and flags 15) fork a.0;
-      image_is = truth-from (has flags 16) image b.0;
-      payload_is = truth-from (has flags 32) payload d.0;
-      init_is = truth-from (has flags 64) init e.0;
-      same_is = truth-from (has flags 128) same g.0;
+      image_is = truth-from (has_bits flags 16) image b.0;
+      payload_is = truth-from (has_bits flags 32) payload d.0;
+      init_is = truth-from (has_bits flags 64) init e.0;
+      same_is = truth-from (has_bits flags 128) same g.0;
       fits = lt-from flags 256 g.1;
     }
 

@@ -6,7 +6,7 @@ use Rattle.wal_record.specs.declared.parts.Part.{Part}
 use Rattle.wal_record.specs.declared.parts.Part.TheVariants as part
 use Rattle.wal_record.specs.declared.parts.BlockHeader.{BlockHeader}
 use Rattle.wal_record.specs.declared.parts.ImageHeader.{ImageHeader}
-use Rattle.wal_record.specs.declared.parts.Seen.{Seen}
+use Rattle.wal_record.specs.declared.parts.HeadersRead.{HeadersRead}
 use Rattle.wal_record.specs.Parts.{image_length, after, start, seen_after}
 use Rattle.wal_record.specs.Decoded.{block_in, blocks_of, image_in}
 use Rattle.wal_record.specs.Spelling.{AreBytes, AreParts, IsSpelling, Spelling, record_of}
@@ -32,7 +32,7 @@ block-is block payloads number all = record {
 }
 
 -- each block among the parts has its share of payloads that are bytes
-blocks-are : (seen : Seen) (parts : List Part) (payloads : List ℕ) → AreParts seen parts → AreBytes payloads → All IsBlockOfBytes (blocks_of parts payloads)
+blocks-are : (seen : HeadersRead) (parts : List Part) (payloads : List ℕ) → AreParts seen parts → AreBytes payloads → All IsBlockOfBytes (blocks_of parts payloads)
 blocks-are seen [] payloads parted all = All-nil IsBlockOfBytes
 blocks-are seen (part.Block block ∷ parts) payloads (opened, may, parted) all =
     let size = image_length block.image + block.data_length in

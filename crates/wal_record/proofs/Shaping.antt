@@ -10,7 +10,7 @@ use Rattle.wal_record.specs.declared.types.PrevRule.{PrevRule}
 use Rattle.wal_record.specs.declared.types.RecordHead.{RecordHead}
 use Rattle.wal_record.specs.declared.types.RecordFault.{RecordFault}
 use Rattle.wal_record.specs.declared.parts.Part.{Part}
-use Rattle.wal_record.specs.declared.parts.Seen.{Seen}
+use Rattle.wal_record.specs.declared.parts.HeadersRead.{HeadersRead}
 use Rattle.wal_record.specs.declared.view.RecordShape.{RecordShape}
 use Rattle.wal_record.specs.Record.{Record}
 use Rattle.wal_record.specs.Parts.{parts_of, start, seen_after}
@@ -33,27 +33,27 @@ behind front rest text e =
     let m : length text - length rest ≡ length front = omega arith in
     (omega arith, rw (m, e) (drop-append_seam front rest))
 
-walked-behind : (text : List ℕ) (seen : Seen) (payloads : List ℕ) (read : Option (List Part × List ℕ)) → AreBytes text → parts_of text ≡ read
-    → option_map {U = Seen × List ℕ} (λ y. (seen_after start y.0, y.1)) read ≡ Some (seen, payloads) → seen.compressed ≡ false
+walked-behind : (text : List ℕ) (seen : HeadersRead) (payloads : List ℕ) (read : Option (List Part × List ℕ)) → AreBytes text → parts_of text ≡ read
+    → option_map {U = HeadersRead × List ℕ} (λ y. (seen_after start y.0, y.1)) read ≡ Some (seen, payloads) → seen.compressed ≡ false
     → (length payloads ≤ length text) × (drop (length text - length payloads) text ≡ payloads)
 walked-behind text seen payloads None all e h plain = absurd (cc)
 walked-behind text seen payloads (Some y) all e h plain =
     let both : (seen_after start y.0, y.1) ≡ (seen, payloads) = same_Some _ _ h in
-    let left : seen_after start y.0 ≡ seen = ap (λ (x : Seen × List ℕ). x.0) both in
-    let right : y.1 ≡ payloads = ap (λ (x : Seen × List ℕ). x.1) both in
-    let plain_parts : (seen_after start y.0).compressed ≡ false = ap (λ (s : Seen). s.compressed) left ∙ plain in
+    let left : seen_after start y.0 ≡ seen = ap (λ (x : HeadersRead × List ℕ). x.0) both in
+    let right : y.1 ≡ payloads = ap (λ (x : HeadersRead × List ℕ). x.1) both in
+    let plain_parts : (seen_after start y.0).compressed ≡ false = ap (λ (s : HeadersRead). s.compressed) left ∙ plain in
     let taken = parts-take (length text) start text y all e plain_parts in
     subst (λ (rest : List ℕ). (length rest ≤ length text) × (drop (length text - length rest) text ≡ rest)) right
     (behind (flat_map part_text y.0) y.1 text taken.0.parts)
 
 -- the payloads that a walk leaves stand behind the headers
-pub payloads-behind : (text : List ℕ) (seen : Seen) (payloads : List ℕ) → AreBytes text → walked text ≡ Some (seen, payloads) → seen.compressed ≡ false
+pub payloads-behind : (text : List ℕ) (seen : HeadersRead) (payloads : List ℕ) → AreBytes text → walked text ≡ Some (seen, payloads) → seen.compressed ≡ false
     → (length payloads ≤ length text) × (drop (length text - length payloads) text ≡ payloads)
 unfolding walked_from
 payloads-behind text seen payloads all h plain = walked-behind text seen payloads (parts_of text) all refl h plain
 
 -- a text whose walk fills it is laid so
-pub laid-there : (head : RecordHead) (text : List ℕ) (seen : Seen) (payloads : List ℕ) → AreBytes text → length text < 2 ^ 32 → walked text ≡ Some (seen, payloads)
+pub laid-there : (head : RecordHead) (text : List ℕ) (seen : HeadersRead) (payloads : List ℕ) → AreBytes text → length text < 2 ^ 32 → walked text ≡ Some (seen, payloads)
     → length payloads ≡ seen.blocks + seen.main → seen.compressed ≡ false
     → SaysLaid (Ok (record { headers = length text - length payloads; blocks = seen.blocks })) head text (laid_out head text)
 laid-there head text seen payloads all few h fills plain =

@@ -8,14 +8,14 @@ use Rattle.std.proofs.lemmas.List.Elements.{All-drop}
 use Rattle.std.proofs.lemmas.Option.{same_Some}
 use Rattle.byteorder.specs.Endian.{little_bytes, little_number}
 use Rattle.byteorder.specs.Numbers.{little_from-lt, length-bytes_low_first}
-use Rattle.pg_types.specs.Numbers.{number_at}
+use Rattle.pg_types.specs.Numbers.{number_at, has_bits}
 use Rattle.pg_types.specs.declared.names.Locator.{Locator}
 use Rattle.wal_record.specs.declared.parts.Part.{Part}
 use Rattle.wal_record.specs.declared.parts.Part.TheVariants as part
 use Rattle.wal_record.specs.declared.parts.BlockHeader.{BlockHeader}
 use Rattle.wal_record.specs.declared.parts.ImageHeader.{ImageHeader}
-use Rattle.wal_record.specs.declared.parts.Seen.{Seen}
-use Rattle.wal_record.specs.Parts.{◌>>=◌, number_from, has, has_hole, is_compressed, any_compressed, fits_page, data_agrees, image_header, image_behind, image_at, image_from, locator_at, locator_from, flags_at, block_at, block_from, part_from, part_at}
+use Rattle.wal_record.specs.declared.parts.HeadersRead.{HeadersRead}
+use Rattle.wal_record.specs.Parts.{◌>>=◌, number_from, has_hole, is_compressed, any_compressed, fits_page, data_agrees, image_header, image_behind, image_at, image_from, locator_at, locator_from, flags_at, block_at, block_from, part_from, part_at}
 use Rattle.wal_record.specs.Spelling.{AreBytes, byte, short, long, image_text, locator_text, block_text, part_text, IsImage, ImageAgrees, IsLocator, RelationAgrees, IsBlock, MayFollow}
 use Rattle.pg_types.proofs.SpelledNumbers.{bytes_of_number, read_back}
 use Rattle.wal_record.proofs.Comparisons.{eq-false, eq-from, or-false, or-parts}
@@ -150,7 +150,7 @@ image_from-takes : (flags : ℕ) (bytes : List ℕ) (y : Option ImageHeader × L
     → Takes bytes (image_text y.0) y.1 × ImageAgrees flags y.0
 unfolding image_from
 image_from-takes flags bytes y all e plain =
-    elim (chosen (has flags 16) (option_map {U = Option ImageHeader × List ℕ} (λ image. (Some image.0, image.1)) (image_at bytes)) (Some (None, bytes)) (Some y) e) [
+    elim (chosen (has_bits flags 16) (option_map {U = Option ImageHeader × List ℕ} (λ image. (Some image.0, image.1)) (image_at bytes)) (Some (None, bytes)) (Some y) e) [
       | first held x ↦
           let m = map_some (image_at bytes) (λ (image : ImageHeader × List ℕ). (Some image.0, image.1)) y x in
           let made : Option ImageHeader × List ℕ = (Some m.0.0, m.0.1) in
@@ -191,15 +191,15 @@ locator_at-takes bytes y all e =
 
 -- the relation of a block with these flags
 abbrev pub relation_spelled : ℕ → Locator → List ℕ
-relation_spelled flags locator = if has flags 128 then [] else locator_text locator
+relation_spelled flags locator = if has_bits flags 128 then [] else locator_text locator
 
 abbrev pub RelationIs : Option Locator → ℕ → Locator → Type 0
-RelationIs before flags locator = MatchBool (has flags 128) (before ≡ Some locator) (IsLocator locator)
+RelationIs before flags locator = MatchBool (has_bits flags 128) (before ≡ Some locator) (IsLocator locator)
 
 locator_from-again : (before : Option Locator) (flags : ℕ) (locator : Locator) (rest : List ℕ) → RelationIs before flags locator
     → locator_from before flags (relation_spelled flags locator ++ rest) ≡ Some (locator, rest)
 unfolding locator_from
-locator_from-again before flags locator rest is = by-flag (has flags 128) is
+locator_from-again before flags locator rest is = by-flag (has_bits flags 128) is
   where
     by-flag : (b : Bool) → MatchBool b (before ≡ Some locator) (IsLocator locator)
         → cond b (option_map (λ l. (l, cond b [] (locator_text locator) ++ rest)) before) (locator_at (cond b [] (locator_text locator) ++ rest)) ≡ Some (locator, rest)
@@ -209,7 +209,7 @@ locator_from-again before flags locator rest is = by-flag (has flags 128) is
 locator_from-takes : (before : Option Locator) (flags : ℕ) (bytes : List ℕ) (y : Locator × List ℕ) → AreBytes bytes → locator_from before flags bytes ≡ Some y
     → Takes bytes (relation_spelled flags y.0) y.1 × RelationIs before flags y.0
 unfolding locator_from
-locator_from-takes before flags bytes y all e = by-flag (has flags 128) e
+locator_from-takes before flags bytes y all e = by-flag (has_bits flags 128) e
   where
     by-flag : (b : Bool) → cond b (option_map {U = Locator × List ℕ} (λ l. (l, bytes)) before) (locator_at bytes) ≡ Some y
         → Takes bytes (cond b [] (locator_text y.0)) y.1 × MatchBool b (before ≡ Some y.0) (IsLocator y.0)
@@ -241,7 +241,7 @@ flags_at-takes bytes y all e =
     let P : (ℕ × ℕ) × List ℕ → Type 0 = λ z. Takes bytes (byte z.0.0 ++ short z.0.1) z.1 × (z.0.0 < 2 ^ 8) × (z.0.1 < 2 ^ 16) × (data_agrees z.0.0 z.0.1 ≡ true) in
     subst P (same_Some made y g.1) (Takes-then bytes (byte a.0.0) a.0.1 (short b.0.0) b.0.1 t0.0 t1.0, t0.1, t1.1, g.0)
 
-block_at-again : (seen : Seen) (block : BlockHeader) (rest : List ℕ) → IsBlock seen block → block_at seen.locator block.id (block_text block ++ rest) ≡ Some (block, rest)
+block_at-again : (seen : HeadersRead) (block : BlockHeader) (rest : List ℕ) → IsBlock seen block → block_at seen.locator block.id (block_text block ++ rest) ≡ Some (block, rest)
 unfolding block_at
 block_at-again seen block rest is =
     let image = image_text block.image in
@@ -294,18 +294,18 @@ block_at-takes before id bytes y all e plain =
 
 -- ---- parts
 
-block_from-again : (seen : Seen) (block : BlockHeader) (rest : List ℕ) → IsBlock seen block → block_from seen block.id (block_text block ++ rest) ≡ Some (part.Block block, rest)
+block_from-again : (seen : HeadersRead) (block : BlockHeader) (rest : List ℕ) → IsBlock seen block → block_from seen block.id (block_text block ++ rest) ≡ Some (part.Block block, rest)
 unfolding block_from
 block_from-again seen block rest is =
     let low : nat_lt block.id seen.least_id ≡ false = (let h = is.rising in grind (arith, nat_tests)) in
     let high : nat_lt 32 block.id ≡ false = (let h = is.id_fits in grind (arith, nat_tests)) in
     rw (or-false (nat_lt block.id seen.least_id) (nat_lt 32 block.id) low high, block_at-again seen block rest is) refl
 
-part_from-block : (seen : Seen) (id : ℕ) (text : List ℕ) → id ≤ 32 → part_from seen id text ≡ block_from seen id text
+part_from-block : (seen : HeadersRead) (id : ℕ) (text : List ℕ) → id ≤ 32 → part_from seen id text ≡ block_from seen id text
 unfolding part_from
 part_from-block seen id text h = rw (eq-false id 255 (λ e. omega arith), eq-false id 254 (λ e. omega arith), eq-false id 253 (λ e. omega arith), eq-false id 252 (λ e. omega arith)) refl
 
-pub part_at-again : (seen : Seen) (p : Part) (rest : List ℕ) → MayFollow seen p → part_at seen (part_text p ++ rest) ≡ Some (p, rest)
+pub part_at-again : (seen : HeadersRead) (p : Part) (rest : List ℕ) → MayFollow seen p → part_at seen (part_text p ++ rest) ≡ Some (p, rest)
 unfolding part_at part_text part_from
 part_at-again seen (part.Block block) rest is =
     let fits = is.id_fits in
@@ -333,13 +333,13 @@ has_compressed (part.ShortMain size) = false
 has_compressed (part.LongMain size) = false
 
 -- a part behind its id
-abbrev TakesPart : Seen → ℕ → List ℕ → Part × List ℕ → Type 0
+abbrev TakesPart : HeadersRead → ℕ → List ℕ → Part × List ℕ → Type 0
 TakesPart seen id text y = Takes (byte id ++ text) (part_text y.0) y.1 × MayFollow seen y.0
 
 with-id : (id : ℕ) (text spelling rest : List ℕ) → Takes text spelling rest → Takes (byte id ++ text) (byte id ++ spelling) rest
 with-id id text spelling rest t = record { parts = ap (λ (x : List ℕ). byte id ++ x) t.parts ∙ sym (append_assoc (byte id) spelling rest); rest_are = t.rest_are }
 
-block_from-takes : (seen : Seen) (id : ℕ) (text : List ℕ) (y : Part × List ℕ) → AreBytes text → block_from seen id text ≡ Some y → has_compressed y.0 ≡ false → TakesPart seen id text y
+block_from-takes : (seen : HeadersRead) (id : ℕ) (text : List ℕ) (y : Part × List ℕ) → AreBytes text → block_from seen id text ≡ Some y → has_compressed y.0 ≡ false → TakesPart seen id text y
 unfolding block_from part_text
 block_from-takes seen id text y all e plain =
     let g = guard_passed (nat_lt id seen.least_id || nat_lt 32 id) (option_map {U = Part × List ℕ} (λ block. (part.Block block.0, block.1)) (block_at seen.locator id text)) y e in
@@ -368,7 +368,7 @@ block_from-takes seen id text y all e plain =
     )
 
 -- a part that is one number behind its id
-number-part : (seen : Seen) (n known : ℕ) (make : ℕ → Part) (id : ℕ) (text : List ℕ) (y : Part × List ℕ) → AreBytes text → (id == known) ≡ true
+number-part : (seen : HeadersRead) (n known : ℕ) (make : ℕ → Part) (id : ℕ) (text : List ℕ) (y : Part × List ℕ) → AreBytes text → (id == known) ≡ true
     → option_map {U = Part × List ℕ} (λ (x : ℕ × List ℕ). (make x.0, x.1)) (number_from n text) ≡ Some y
     → ((x : ℕ) → part_text (make x) ≡ byte known ++ little_bytes n x) → ((x : ℕ) → x < 256 ^ n → MayFollow seen (make x)) → TakesPart seen id text y
 number-part seen n known make id text y all is e spelling follows =
@@ -382,7 +382,7 @@ number-part seen n known make id text y all is e spelling follows =
     let P : Part × List ℕ → Type 0 = λ z. TakesPart seen id text z in
     subst P same (taken, follows m.0.0 t.1)
 
-part_from-takes : (seen : Seen) (id : ℕ) (text : List ℕ) (y : Part × List ℕ) → AreBytes text → part_from seen id text ≡ Some y → has_compressed y.0 ≡ false → TakesPart seen id text y
+part_from-takes : (seen : HeadersRead) (id : ℕ) (text : List ℕ) (y : Part × List ℕ) → AreBytes text → part_from seen id text ≡ Some y → has_compressed y.0 ≡ false → TakesPart seen id text y
 unfolding part_from part_text
 part_from-takes seen id text y all e plain =
     elim (chosen (id == 255) (option_map {U = Part × List ℕ} (λ x. (part.ShortMain x.0, x.1)) (number_from 1 text)) (or-long text) (Some y) e) [
@@ -408,7 +408,7 @@ part_from-takes seen id text y all e plain =
     or-long : List ℕ → Option (Part × List ℕ)
     or-long text = cond (id == 254) (option_map (λ x. (part.LongMain x.0, x.1)) (number_from 4 text)) (or-origin text)
 
-pub part_at-takes : (seen : Seen) (bytes : List ℕ) (y : Part × List ℕ) → AreBytes bytes → part_at seen bytes ≡ Some y → has_compressed y.0 ≡ false → Takes bytes (part_text y.0) y.1 × MayFollow seen y.0
+pub part_at-takes : (seen : HeadersRead) (bytes : List ℕ) (y : Part × List ℕ) → AreBytes bytes → part_at seen bytes ≡ Some y → has_compressed y.0 ≡ false → Takes bytes (part_text y.0) y.1 × MayFollow seen y.0
 unfolding part_at
 part_at-takes seen bytes y all e plain =
     let a = bind_some (number_from 1 bytes) (λ id. part_from seen id.0 id.1) y e in

@@ -8,7 +8,7 @@ use Rattle.wal_record.specs.declared.types.RecordFault.{RecordFault}
 use Rattle.wal_record.specs.declared.types.RecordFault.TheVariants.{Layout, Compressed}
 use Rattle.wal_record.specs.declared.parts.Part.{Part}
 use Rattle.wal_record.specs.declared.parts.Part.TheVariants as part
-use Rattle.wal_record.specs.declared.parts.Seen.{Seen}
+use Rattle.wal_record.specs.declared.parts.HeadersRead.{HeadersRead}
 use Rattle.wal_record.specs.Record.{Record}
 use Rattle.wal_record.specs.Parts.{◌>>=◌, any_compressed, part_at, parts_from, parts_of, start, after, seen_after}
 use Rattle.wal_record.specs.Decoded.{filled, filled_by, laid_out, blocks_of}
@@ -35,7 +35,7 @@ texts-long [] = omega arith
 texts-long (p ∷ parts) =
     omega (arith, part_text-long p, texts-long parts, ap length (flat_map-cons part_text p parts), length-append (part_text p) (flat_map part_text parts))
 
-main-after : (seen : Seen) (p : Part) → (seen.closed ≡ false → seen.main ≡ 0) → (after seen p).closed ≡ false → (after seen p).main ≡ 0
+main-after : (seen : HeadersRead) (p : Part) → (seen.closed ≡ false → seen.main ≡ 0) → (after seen p).closed ≡ false → (after seen p).main ≡ 0
 main-after seen (part.Block block) h = h
 main-after seen (part.Origin origin) h = h
 main-after seen (part.TopXid xid) h = h
@@ -43,14 +43,14 @@ main-after seen (part.ShortMain size) h = λ e. absurd (cc)
 main-after seen (part.LongMain size) h = λ e. absurd (cc)
 
 -- the parts end where main data's header was there, or nothing but payloads is left
-ends : (seen : Seen) (payloads : List ℕ) → (seen.closed ≡ false → seen.main ≡ 0) → length payloads ≡ seen.blocks + seen.main → is_done seen payloads ≡ true
+ends : (seen : HeadersRead) (payloads : List ℕ) → (seen.closed ≡ false → seen.main ≡ 0) → length payloads ≡ seen.blocks + seen.main → is_done seen payloads ≡ true
 ends seen payloads h e = by-closed seen.closed refl
   where
     by-closed : (b : Bool) → seen.closed ≡ b → is_done seen payloads ≡ true
     by-closed true c = done-closed seen payloads c
     by-closed false c = (let m = h c in done-full seen payloads (omega arith))
 
-pub parts-again : (n : ℕ) (seen : Seen) (parts : List Part) (payloads : List ℕ) → length parts ≤ n → AreParts seen parts → (seen.closed ≡ false → seen.main ≡ 0)
+pub parts-again : (n : ℕ) (seen : HeadersRead) (parts : List Part) (payloads : List ℕ) → length parts ≤ n → AreParts seen parts → (seen.closed ≡ false → seen.main ≡ 0)
     → length payloads ≡ (seen_after seen parts).blocks + (seen_after seen parts).main → parts_from n seen (flat_map part_text parts ++ payloads) ≡ Some (parts, payloads)
 unfolding parts_from
 parts-again zero seen [] payloads le are last e = refl
@@ -69,14 +69,14 @@ parts-again (suc n) seen (p ∷ parts) payloads le are last e =
     ) refl
 
 -- once an image was compressed, one was
-compressed-after : (seen : Seen) (p : Part) → (after seen p).compressed ≡ false → (seen.compressed ≡ false) × (has_compressed p ≡ false)
+compressed-after : (seen : HeadersRead) (p : Part) → (after seen p).compressed ≡ false → (seen.compressed ≡ false) × (has_compressed p ≡ false)
 compressed-after seen (part.Block block) h = or-parts seen.compressed (any_compressed block.image) h
 compressed-after seen (part.Origin origin) h = (h, refl)
 compressed-after seen (part.TopXid xid) h = (h, refl)
 compressed-after seen (part.ShortMain size) h = (h, refl)
 compressed-after seen (part.LongMain size) h = (h, refl)
 
-compressed-seen_after : (seen : Seen) (parts : List Part) → (seen_after seen parts).compressed ≡ false → seen.compressed ≡ false
+compressed-seen_after : (seen : HeadersRead) (parts : List Part) → (seen_after seen parts).compressed ≡ false → seen.compressed ≡ false
 compressed-seen_after seen [] h = h
 compressed-seen_after seen (p ∷ parts) h = (compressed-after seen p (compressed-seen_after (after seen p) parts h)).0
 
@@ -84,7 +84,7 @@ guard_else : {A : Type 0} (b : Bool) (x y z : A) → cond b x y ≡ z → ((b �
 guard_else true x y z e = inl (refl, e)
 guard_else false x y z e = inr (refl, e)
 
-pub parts-take : (n : ℕ) (seen : Seen) (bytes : List ℕ) (y : List Part × List ℕ) → AreBytes bytes → parts_from n seen bytes ≡ Some y → (seen_after seen y.0).compressed ≡ false
+pub parts-take : (n : ℕ) (seen : HeadersRead) (bytes : List ℕ) (y : List Part × List ℕ) → AreBytes bytes → parts_from n seen bytes ≡ Some y → (seen_after seen y.0).compressed ≡ false
     → Takes bytes (flat_map part_text y.0) y.1 × AreParts seen y.0
 unfolding parts_from
 parts-take zero seen bytes y all e plain =
@@ -114,7 +114,7 @@ parts-take (suc n) seen bytes y all e plain =
 
 -- ---- the text behind a header
 
-plain-after : (seen : Seen) (p : Part) → MayFollow seen p → seen.compressed ≡ false → (after seen p).compressed ≡ false
+plain-after : (seen : HeadersRead) (p : Part) → MayFollow seen p → seen.compressed ≡ false → (after seen p).compressed ≡ false
 plain-after seen (part.Block block) is h = rw h (plain-image block.image is.image)
   where
     plain-image : (image : Option ImageHeader) → ImageAgrees block.flags image → any_compressed image ≡ false
@@ -125,7 +125,7 @@ plain-after seen (part.TopXid xid) is h = h
 plain-after seen (part.ShortMain size) is h = h
 plain-after seen (part.LongMain size) is h = h
 
-plain-seen_after : (seen : Seen) (parts : List Part) → AreParts seen parts → seen.compressed ≡ false → (seen_after seen parts).compressed ≡ false
+plain-seen_after : (seen : HeadersRead) (parts : List Part) → AreParts seen parts → seen.compressed ≡ false → (seen_after seen parts).compressed ≡ false
 plain-seen_after seen [] are h = h
 plain-seen_after seen (p ∷ parts) are h = plain-seen_after (after seen p) parts are.2 (plain-after seen p are.1 h)
 

@@ -1,7 +1,7 @@
 -- A record read from its bytes, with the first fault (xlogrecord.h; ValidXLogRecordHeader,
 -- ValidXLogRecord and DecodeXLogRecord of xlogreader.c).
 use Rattle.std.specs.Prelude.{◌≡◌, ℕ, ◌+◌, ◌==◌, ◌<◌, ◌^◌, Bool, ◌&&◌, not, nat_lt, nat_le, bit_and, List, [], ◌∷◌, ◌++◌, length, drop, take, slice_index, Option, Some, None, option_map, unwrap_or, Result, Ok, Err, if◌then◌else◌}
-use Rattle.pg_types.specs.Numbers.{number_at}
+use Rattle.pg_types.specs.Numbers.{number_at, has_bits}
 use Rattle.pg_crc32c.specs.Crc32c.{crc32c_of}
 use Rattle.wal_record.specs.declared.types.RecordHead.{RecordHead}
 use Rattle.wal_record.specs.declared.types.PrevRule.{PrevRule}
@@ -12,9 +12,9 @@ use Rattle.wal_record.specs.declared.parts.Part.{Part}
 use Rattle.wal_record.specs.declared.parts.Part.TheVariants as part
 use Rattle.wal_record.specs.declared.parts.BlockHeader.{BlockHeader}
 use Rattle.wal_record.specs.declared.parts.ImageHeader.{ImageHeader}
-use Rattle.wal_record.specs.declared.parts.Seen.{Seen}
+use Rattle.wal_record.specs.declared.parts.HeadersRead.{HeadersRead}
 use Rattle.wal_record.specs.Record.{Image, Block, Record}
-use Rattle.wal_record.specs.Parts.{has, image_length, start, seen_after, parts_from, parts_of}
+use Rattle.wal_record.specs.Parts.{image_length, start, seen_after, parts_from, parts_of}
 
 infixl 10 ◌>>=◌
 abbrev pub ◌>>=◌ : {A B : Type 0} → Result A RecordFault → (A → Result B RecordFault) → Result B RecordFault
@@ -68,7 +68,7 @@ has_right_crc bytes = number_at 4 bytes 20 == crc32c_of (drop 24 bytes ++ take 2
 
 -- the payload of a block: its image, then its data
 abbrev pub image_in : ImageHeader → List ℕ → Image
-image_in image payload = record { apply = has image.info 2; hole_at = image.hole_at; bytes = take image.length payload }
+image_in image payload = record { apply = has_bits image.info 2; hole_at = image.hole_at; bytes = take image.length payload }
 
 abbrev pub block_in : BlockHeader → List ℕ → Block
 block_in block payload = record {
@@ -76,7 +76,7 @@ block_in block payload = record {
   locator = block.locator;
   fork = bit_and block.flags 15;
   block = block.block;
-  will_init = has block.flags 64;
+  will_init = has_bits block.flags 64;
   image = option_map (λ image. image_in image payload) block.image;
   payload = take block.data_length (drop (image_length block.image) payload);
 }
@@ -121,11 +121,11 @@ decoded bytes at prev = do
   whole head bytes
 
 -- what up to n parts leave seen, and what stands behind their headers
-unfoldable pub walked_from : ℕ → Seen → List ℕ → Option (Seen × List ℕ)
+unfoldable pub walked_from : ℕ → HeadersRead → List ℕ → Option (HeadersRead × List ℕ)
 walked_from n seen text = option_map (λ x. (seen_after seen x.0, x.1)) (parts_from n seen text)
 
 -- the same of all parts of a record whose text behind its header this is
-abbrev pub walked : List ℕ → Option (Seen × List ℕ)
+abbrev pub walked : List ℕ → Option (HeadersRead × List ℕ)
 walked text = walked_from (length text) start text
 
 -- the blocks of a text whose payloads these are
@@ -141,7 +141,7 @@ block_with_id id (part.ShortMain length) = None
 block_with_id id (part.LongMain length) = None
 
 -- how long the payloads are by the headers, and what stands behind these
-abbrev pub announced : Seen × List ℕ → ℕ × List ℕ
+abbrev pub announced : HeadersRead × List ℕ → ℕ × List ℕ
 announced x = (x.0.blocks + x.0.main, x.1)
 
 -- these payloads stand behind the headers in a text of a record, and are as long as the headers say

@@ -1,13 +1,13 @@
 -- The headers of a record's parts, read from left to right (xlogrecord.h; DecodeXLogRecord of
 -- xlogreader.c). None is a part that breaks the layout.
 use Rattle.std.specs.Prelude.{ℕ, zero, suc, ◌+◌, ◌-◌, ◌==◌, Bool, true, false, ◌&&◌, ◌||◌, not, nat_lt, nat_le, bit_and, List, [], ◌∷◌, length, drop, fold, Option, Some, None, option_map, if◌then◌else◌}
-use Rattle.pg_types.specs.Numbers.{number_at}
+use Rattle.pg_types.specs.Numbers.{number_at, has_bits}
 use Rattle.pg_types.specs.declared.names.Locator.{Locator}
 use Rattle.wal_record.specs.declared.parts.Part.{Part}
 use Rattle.wal_record.specs.declared.parts.Part.TheVariants as part
 use Rattle.wal_record.specs.declared.parts.BlockHeader.{BlockHeader}
 use Rattle.wal_record.specs.declared.parts.ImageHeader.{ImageHeader}
-use Rattle.wal_record.specs.declared.parts.Seen.{Seen}
+use Rattle.wal_record.specs.declared.parts.HeadersRead.{HeadersRead}
 
 infixl 10 ◌>>=◌
 abbrev pub ◌>>=◌ : {A B : Type 0} → Option A → (A → Option B) → Option B
@@ -18,17 +18,13 @@ None >>= f = None
 unfoldable pub number_from : ℕ → List ℕ → Option (ℕ × List ℕ)
 number_from n text = if nat_lt (length text) n then None else Some (number_at n text 0, drop n text)
 
--- the flag is set
-abbrev pub has : ℕ → ℕ → Bool
-has flags flag = not (bit_and flags flag == 0)
-
 -- the image has a hole (BKPIMAGE_HAS_HOLE)
 abbrev pub has_hole : ImageHeader → Bool
-has_hole image = has image.info 1
+has_hole image = has_bits image.info 1
 
 -- the image is compressed, in one of three ways (BKPIMAGE_COMPRESSED)
 abbrev pub is_compressed : ImageHeader → Bool
-is_compressed image = has image.info 28
+is_compressed image = has_bits image.info 28
 
 -- An image with a hole is shorter than a page, and the hole, which is what it lacks of a page, begins
 -- behind the page's first byte and ends within it. One without has a whole page, and no place of a hole.
@@ -62,7 +58,7 @@ image_at text = do
 -- flag 0x10: an image follows (BKPBLOCK_HAS_IMAGE)
 unfoldable pub image_from : ℕ → List ℕ → Option (Option ImageHeader × List ℕ)
 image_from flags text =
-    if has flags 16 then option_map (λ image. (Some image.0, image.1)) (image_at text) else Some (None, text)
+    if has_bits flags 16 then option_map (λ image. (Some image.0, image.1)) (image_at text) else Some (None, text)
 
 -- tablespace, database and file (RelFileLocator)
 unfoldable pub locator_at : List ℕ → Option (Locator × List ℕ)
@@ -75,11 +71,11 @@ locator_at text = do
 -- flag 0x80: the relation of the block before, which has to be there (BKPBLOCK_SAME_REL)
 unfoldable pub locator_from : Option Locator → ℕ → List ℕ → Option (Locator × List ℕ)
 locator_from before flags text =
-    if has flags 128 then option_map (λ locator. (locator, text)) before else locator_at text
+    if has_bits flags 128 then option_map (λ locator. (locator, text)) before else locator_at text
 
 -- flag 0x20: the block has data, and no block has it without (BKPBLOCK_HAS_DATA)
 abbrev pub data_agrees : ℕ → ℕ → Bool
-data_agrees flags size = if has flags 32 then nat_lt 0 size else size == 0
+data_agrees flags size = if has_bits flags 32 then nat_lt 0 size else size == 0
 
 -- flags and the data's length, which agree
 unfoldable pub flags_at : List ℕ → Option ((ℕ × ℕ) × List ℕ)
@@ -98,14 +94,14 @@ block_at before id text = do
   Some (record { id = id; flags = flags.0.0; data_length = flags.0.1; image = image.0; locator = locator.0; block = block.0 }, block.1)
 
 -- ids of blocks rise, and go to 32 (XLR_MAX_BLOCK_ID)
-unfoldable pub block_from : Seen → ℕ → List ℕ → Option (Part × List ℕ)
+unfoldable pub block_from : HeadersRead → ℕ → List ℕ → Option (Part × List ℕ)
 block_from seen id text =
     if nat_lt id seen.least_id || nat_lt 32 id then None
     else option_map (λ block. (part.Block block.0, block.1)) (block_at seen.locator id text)
 
 -- 255 and 254: main data by the length of its length (XLR_BLOCK_ID_DATA_SHORT, _LONG); 253: the
 -- replication origin (XLR_BLOCK_ID_ORIGIN); 252: the top-level xid (XLR_BLOCK_ID_TOPLEVEL_XID)
-unfoldable pub part_from : Seen → ℕ → List ℕ → Option (Part × List ℕ)
+unfoldable pub part_from : HeadersRead → ℕ → List ℕ → Option (Part × List ℕ)
 part_from seen id text =
     if id == 255 then option_map (λ x. (part.ShortMain x.0, x.1)) (number_from 1 text)
     else if id == 254 then option_map (λ x. (part.LongMain x.0, x.1)) (number_from 4 text)
@@ -113,7 +109,7 @@ part_from seen id text =
     else if id == 252 then option_map (λ x. (part.TopXid x.0, x.1)) (number_from 4 text)
     else block_from seen id text
 
-unfoldable pub part_at : Seen → List ℕ → Option (Part × List ℕ)
+unfoldable pub part_at : HeadersRead → List ℕ → Option (Part × List ℕ)
 part_at seen text = do
   id ← number_from 1 text
   part_from seen id.0 id.1
@@ -128,7 +124,7 @@ any_compressed None = false
 any_compressed (Some image) = is_compressed image
 
 -- what was seen, with one more part: the header of main data is the last
-abbrev pub after : Seen → Part → Seen
+abbrev pub after : HeadersRead → Part → HeadersRead
 after seen (part.Block block) = record {
   locator = Some block.locator;
   least_id = block.id + 1;
@@ -143,16 +139,16 @@ after seen (part.ShortMain length) = record seen { main = length; closed = true 
 after seen (part.LongMain length) = record seen { main = length; closed = true }
 
 -- nothing was seen
-abbrev pub start : Seen
+abbrev pub start : HeadersRead
 start = record { locator = None; least_id = 0; blocks = 0; main = 0; compressed = false; closed = false }
 
 -- what these parts leave seen
-abbrev pub seen_after : Seen → List Part → Seen
+abbrev pub seen_after : HeadersRead → List Part → HeadersRead
 seen_after seen parts = fold after seen parts
 
 -- The parts, and what stands behind their headers. They end with the header of main data, or where
 -- what is left is no more than the payloads of the blocks so far. (At most n are read; each has a byte.)
-unfoldable pub parts_from : ℕ → Seen → List ℕ → Option (List Part × List ℕ)
+unfoldable pub parts_from : ℕ → HeadersRead → List ℕ → Option (List Part × List ℕ)
 parts_from zero seen text = Some ([], text)
 parts_from (suc n) seen text =
     if seen.closed || nat_le (length text) seen.blocks then Some ([], text) else do

@@ -9,9 +9,10 @@ use Rattle.wal_record.specs.declared.parts.Part.{Part}
 use Rattle.wal_record.specs.declared.parts.Part.TheVariants as part
 use Rattle.wal_record.specs.declared.parts.BlockHeader.{BlockHeader}
 use Rattle.wal_record.specs.declared.parts.ImageHeader.{ImageHeader}
-use Rattle.wal_record.specs.declared.parts.Seen.{Seen}
+use Rattle.wal_record.specs.declared.parts.HeadersRead.{HeadersRead}
 use Rattle.wal_record.specs.Record.{Record}
-use Rattle.wal_record.specs.Parts.{has, is_compressed, fits_page, data_agrees, after, start, seen_after}
+use Rattle.pg_types.specs.Numbers.{has_bits}
+use Rattle.wal_record.specs.Parts.{is_compressed, fits_page, data_agrees, after, start, seen_after}
 use Rattle.wal_record.specs.Decoded.{is_unknown_manager, may_link, blocks_of, decoded}
 
 -- a number in one, two and four bytes, the lowest first
@@ -34,7 +35,7 @@ abbrev pub locator_text : Locator → List ℕ
 locator_text locator = long locator.space ++ (long locator.db ++ long locator.rel)
 
 abbrev pub relation_text : BlockHeader → List ℕ
-relation_text block = if has block.flags 128 then [] else locator_text block.locator
+relation_text block = if has_bits block.flags 128 then [] else locator_text block.locator
 
 -- the header of a block behind its id (XLogRecordBlockHeader)
 abbrev pub block_text : BlockHeader → List ℕ
@@ -59,8 +60,8 @@ pub record IsImage (image : ImageHeader) : Type 0 where
 
 -- an image is there exactly where a flag says so
 abbrev pub ImageAgrees : ℕ → Option ImageHeader → Type 0
-ImageAgrees flags None = has flags 16 ≡ false
-ImageAgrees flags (Some image) = (has flags 16 ≡ true) × IsImage image
+ImageAgrees flags None = has_bits flags 16 ≡ false
+ImageAgrees flags (Some image) = (has_bits flags 16 ≡ true) × IsImage image
 
 pub record IsLocator (locator : Locator) : Type 0 where
   pub space : locator.space < 2 ^ 32
@@ -69,10 +70,10 @@ pub record IsLocator (locator : Locator) : Type 0 where
 
 -- where a flag says so the relation is that of the block before
 abbrev pub RelationAgrees : Option Locator → BlockHeader → Type 0
-RelationAgrees before block = MatchBool (has block.flags 128) (before ≡ Some block.locator) (IsLocator block.locator)
+RelationAgrees before block = MatchBool (has_bits block.flags 128) (before ≡ Some block.locator) (IsLocator block.locator)
 
 -- a block's header may come behind what was seen: ids rise, to 32 at most
-pub record IsBlock (seen : Seen) (block : BlockHeader) : Type 0 where
+pub record IsBlock (seen : HeadersRead) (block : BlockHeader) : Type 0 where
   pub rising : seen.least_id ≤ block.id
   pub id_fits : block.id ≤ 32
   pub flags_fit : block.flags < 2 ^ 8
@@ -83,7 +84,7 @@ pub record IsBlock (seen : Seen) (block : BlockHeader) : Type 0 where
   pub block_fits : block.block < 2 ^ 32
 
 -- a part's header may come behind what was seen
-abbrev pub MayFollow : Seen → Part → Type 0
+abbrev pub MayFollow : HeadersRead → Part → Type 0
 MayFollow seen (part.Block block) = IsBlock seen block
 MayFollow seen (part.Origin origin) = origin < 2 ^ 16
 MayFollow seen (part.TopXid xid) = xid < 2 ^ 32
@@ -91,7 +92,7 @@ MayFollow seen (part.ShortMain size) = size < 2 ^ 8
 MayFollow seen (part.LongMain size) = size < 2 ^ 32
 
 -- these parts may come one after another, and nothing behind main data's
-abbrev pub AreParts : Seen → List Part → Type 0
+abbrev pub AreParts : HeadersRead → List Part → Type 0
 AreParts seen [] = Unit {0}
 AreParts seen (p ∷ parts) = (seen.closed ≡ false) × MayFollow seen p × AreParts (after seen p) parts
 

@@ -1,5 +1,6 @@
 ghost use Rattle.std.specs.Prelude.{◌≡◌, ◌+◌, ◌<◌, ◌≤◌, ◌^◌, option_map, IsTrue};
-ghost use Rattle.wal_record.specs.Parts.{image_header, image_behind, image_at, image_from, locator_at, locator_from, flags_at, block_at, block_from, part_from, part_at, has, is_compressed, has_hole, fits_page, data_agrees, image_length, any_compressed, after, start};
+ghost use Rattle.pg_types.specs.Numbers.{has_bits};
+ghost use Rattle.wal_record.specs.Parts.{image_header, image_behind, image_at, image_from, locator_at, locator_from, flags_at, block_at, block_from, part_from, part_at, is_compressed, has_hole, fits_page, data_agrees, image_length, any_compressed, after, start};
 
 use crate::fields::{byte, long, short};
 use pg_types::Locator;
@@ -40,7 +41,7 @@ pub(crate) struct ImageHeader {
 
 /// What the part headers so far say about those to come.
 #[derive(Clone, Copy, Debug)]
-pub(crate) struct Seen {
+pub(crate) struct HeadersRead {
     /// The relation of the block before.
     pub(crate) locator: Option<Locator>,
     /// The least id that the next block may have.
@@ -192,7 +193,7 @@ fn block_header(before: Option<Locator>, id: u8, text: &[u8]) -> Option<(BlockHe
 }
 
 #[tactic(auto, unfolding(crate::specs::Parts::block_from))]
-fn block(seen: Seen, id: u8, text: &[u8]) -> Option<(Part, &[u8])>
+fn block(seen: HeadersRead, id: u8, text: &[u8]) -> Option<(Part, &[u8])>
     ensures { option_map (λ x. (x.0, x.1.now)) result ≡ block_from seen id text.now }
 {
     if u16::from(id) < seen.least_id || 32 < id {
@@ -204,7 +205,7 @@ fn block(seen: Seen, id: u8, text: &[u8]) -> Option<(Part, &[u8])>
 
 /// The header of a part behind its id.
 #[tactic(auto, unfolding(crate::specs::Parts::part_from))]
-fn part_of(seen: Seen, id: u8, text: &[u8]) -> Option<(Part, &[u8])>
+fn part_of(seen: HeadersRead, id: u8, text: &[u8]) -> Option<(Part, &[u8])>
     ensures { option_map (λ x. (x.0, x.1.now)) result ≡ part_from seen id text.now }
 {
     match id {
@@ -230,7 +231,7 @@ fn part_of(seen: Seen, id: u8, text: &[u8]) -> Option<(Part, &[u8])>
 
 /// The header of a part, and what stands behind it.
 #[tactic(auto, unfolding(crate::specs::Parts::part_at))]
-pub(crate) fn next_part(seen: Seen, text: &[u8]) -> Option<(Part, &[u8])>
+pub(crate) fn next_part(seen: HeadersRead, text: &[u8]) -> Option<(Part, &[u8])>
     ensures { option_map (λ x. (x.0, x.1.now)) result ≡ part_at seen text.now }
 {
     let (id, text) = byte(text)?;
@@ -256,8 +257,8 @@ fn any_compressed(image: Option<ImageHeader>) -> bool
     }
 }
 
-impl Seen {
-    pub(crate) const START: Seen = Seen {
+impl HeadersRead {
+    pub(crate) const START: HeadersRead = HeadersRead {
         locator: None,
         least_id: 0,
         blocks: 0,
@@ -267,13 +268,13 @@ impl Seen {
     };
 
     /// What was seen, with one more part.
-    pub(crate) fn after(self, part: Part) -> Seen
+    pub(crate) fn after(self, part: Part) -> HeadersRead
         requires { self.blocks < 2 ^ 63 }
         ensures exact { result ≡ after self part }
         ensures bounded { result.blocks ≤ self.blocks + 131070 }
     {
         match part {
-            Part::Block(block) => Seen {
+            Part::Block(block) => HeadersRead {
                 locator: Some(block.locator),
                 least_id: u16::from(block.id) + 1,
                 blocks: self.blocks + image_length(block.image) + block.data_length as usize,
@@ -282,7 +283,7 @@ impl Seen {
                 closed: self.closed,
             },
             Part::Origin(_) | Part::TopXid(_) => self,
-            Part::ShortMain(length) => Seen {
+            Part::ShortMain(length) => HeadersRead {
                 locator: self.locator,
                 least_id: self.least_id,
                 blocks: self.blocks,
@@ -290,7 +291,7 @@ impl Seen {
                 compressed: self.compressed,
                 closed: true,
             },
-            Part::LongMain(length) => Seen {
+            Part::LongMain(length) => HeadersRead {
                 locator: self.locator,
                 least_id: self.least_id,
                 blocks: self.blocks,

@@ -7,7 +7,7 @@ ghost use Rattle.wal_record.specs.Record.{block_by_id};
 ghost use Rattle.wal_record.specs.Views.{block_of_view, image_of_view};
 
 use crate::head::{HEADER, decode_head, fields, has_right_crc};
-use crate::parts::{BlockHeader, ImageHeader, Part, Seen, image_length, next_part};
+use crate::parts::{BlockHeader, HeadersRead, ImageHeader, Part, image_length, next_part};
 use crate::types::{BlockView, ImageView, PrevRule, RecordFault, RecordHead};
 use pg_types::Lsn;
 use std::marker::Model;
@@ -136,11 +136,11 @@ fn laid_out(text: &[u8]) -> Result<RecordShape, RecordFault>
 }
 
 /// What the parts leave seen, and what stands behind their headers.
-fn walk(text: &[u8]) -> Option<(Seen, &[u8])>
+fn walk(text: &[u8]) -> Option<(HeadersRead, &[u8])>
     requires { length text.now < 2 ^ 32 }
     ensures { option_map (λ x. (x.0, x.1.now)) result ≡ walked text.now }
 {
-    let mut seen = Seen::START;
+    let mut seen = HeadersRead::START;
     let mut rest = text;
     for _ in 0..text.len() {
         if seen.closed || rest.len() <= seen.blocks {
@@ -158,7 +158,7 @@ fn find<'a>(text: &[u8], payloads: &'a [u8], id: u8) -> Option<BlockView<'a>>
     requires { IsParted text.now payloads.now }
     ensures { option_map (λ block. block_of_view id block) result ≡ block_by_id id (blocks_in text.now payloads.now) }
 {
-    let mut seen = Seen::START;
+    let mut seen = HeadersRead::START;
     let mut rest = text;
     for _ in 0..text.len() {
         if seen.closed || rest.len() <= seen.blocks {

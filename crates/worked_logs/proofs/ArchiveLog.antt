@@ -25,7 +25,7 @@ use Rattle.row_model.specs.WorkedRows.{worked_ids, worked_log, worked_origin, wo
 use Rattle.worked_logs.specs.Clauses.{Clause, Births, Deleters, Removals, Cut, Blocks, Locks, CheckpointLocks, Multixacts, Renews, Apart, Shutdowns, Transactions, NewMultixacts, Redone}
 use Rattle.transaction_model.proofs.NoIds.{among_one}
 use Rattle.worked_logs.proofs.OneMore.{Adds, IsBlockRule, WorkedKeeps, each_keeps, no_blocks, renews_two}
-use Rattle.transaction_model.specs.LegalTransactions.{OriginRule}
+use Rattle.transaction_model.specs.LegalTransactions.{TransactionOriginRule}
 use Rattle.std.specs.Prelude.{pos}
 use Rattle.row_model.specs.RowSteps.{view_before}
 use Rattle.heap_redo.specs.After.{applied}
@@ -62,7 +62,7 @@ abbrev at_start : List Rec
 at_start = ending ∷ checkpoint ∷ running ∷ []
 
 -- nothing is written
-empty_keeps : OriginRule worked_ids → WorkedKeeps []
+empty_keeps : TransactionOriginRule worked_ids → WorkedKeeps []
 unfolding renews_first Legal view_after
 empty_keeps rule Births = tt
 empty_keeps rule Deleters = tt
@@ -311,7 +311,7 @@ other_renews redo h =
       ]
     ]
 
-archive_keeps : Legal worked_ids (transactions_of worked_start) → OriginRule worked_ids → WorkedKeeps log
+archive_keeps : Legal worked_ids (transactions_of worked_start) → TransactionOriginRule worked_ids → WorkedKeeps log
 archive_keeps legal rule =
     each_keeps (insert ∷ at_start) commit
     (each_keeps at_start insert
@@ -324,7 +324,7 @@ worked_begin : Legal worked_ids (transactions_of worked_log) → Legal worked_id
 unfolding Legal
 worked_begin legal = legal.1.1.1.1
 
-at_origin : Legal worked_ids (transactions_of worked_start) → OriginRule worked_ids
+at_origin : Legal worked_ids (transactions_of worked_start) → TransactionOriginRule worked_ids
 unfolding Legal
 at_origin legal = legal.1.1.1
 

@@ -1,7 +1,7 @@
 -- Each part of the rules on checkpoints is broken alone.
 use Rattle.std.proofs.Common.{◌≡◌, ℕ, ◌<◌, ◌≤◌, true, false, ◌==◌, ◌||◌, nat_lt, [], arith, refl, subst, inl, inr}
 use Rattle.std.proofs.lemmas.Bool.{false≢true, le-ltb, lt-ltb, or_from, or_left}
-use Rattle.transaction_model.specs.Transactions.{ended, seen}
+use Rattle.transaction_model.specs.Transactions.{ended, named}
 use Rattle.transaction_model.specs.LegalTransactions.{SubsEnd, before, greatest_next, last_redo, starts_at}
 use Rattle.worked_logs.specs.SecondLog.{second_ids}
 use Rattle.worked_logs.specs.CheckpointRules.{CheckpointRulesBreak, IsNextAt, NoOnline, OnlineParts, ShutdownParts, online, shut}
@@ -14,7 +14,7 @@ zero_seen m x some h =
     at_most 0 m x ((0 == x) || false) some (λ l. at_most 0 m x false some (λ none. absurd (false≢true none)) l) h
 
 next_after : (n : ℕ) → 3 ≤ n → IsNextAt n (shut n)
-unfolding seen ended greatest_next
+unfolding named ended greatest_next
 next_after n normal =
     record {
       normal = normal;
@@ -25,7 +25,7 @@ next_after n normal =
     }
 
 next_first : IsNextAt 3 []
-unfolding seen ended greatest_next
+unfolding named ended greatest_next
 next_first =
     record {
       normal = omega arith;

@@ -6,14 +6,14 @@ use Rattle.std.specs.Prelude.{◌==◌}
 use Rattle.std.specs.List.{list_any}
 use Rattle.pg_types.specs.declared.names.Locator.{Locator}
 use Rattle.wal_bodies.specs.declared.types.Rec.{Rec}
-use Rattle.heap_redo.specs.Redone.{View}
+use Rattle.page_store.specs.Seen.{View}
 use Rattle.heap_redo.specs.declared.fault.RedoFault.{RedoFault}
 use Rattle.transaction_model.specs.LegalTransactions.{Legal}
 use Rattle.xact_redo.specs.TransactionsOf.{kind_of}
 use Rattle.row_model.specs.Origins.{LogOrigin}
 use Rattle.row_model.specs.RowSteps.{view_after, view_with_record}
 use Rattle.row_model.specs.LegalRows.{LegalAlong, LegalTable, TableRule, are_apart, has_redo, is_redo, is_redo_own, renews, renews_first}
-use Rattle.worked_logs.specs.Clauses.{Along, Births, Deleters, Removals, Cut, Blocks, Locks, CheckpointLocks, Multixacts, Renews, Apart, Shutdowns, Transactions, NewMultixacts, Redone, FrontsAreLegal, Keeps, KeepingIsLegal, LegalKeeps}
+use Rattle.worked_logs.specs.Clauses.{Along, Births, Deleters, Removals, Cut, Blocks, Locks, CheckpointLocks, Multixacts, Renews, Apart, Shutdowns, Transactions, NewMultixacts, Redone, Keeps, KeepingIsLegal, LegalKeeps}
 
 -- a part of a table's rules, along a log
 along :
@@ -76,51 +76,4 @@ keeping_is_legal_holds o table log keeps =
       rows = All-cons (LegalTable o log) table [] rows (All-nil (LegalTable o log));
       view = (keeps Redone).0;
       redone = (keeps Redone).1;
-    }
-
--- redo of a record more comes after that of the older ones
-redone_before :
-    (rec : Rec) (known : List Locator) (r : Result View RedoFault) (view : View) → view_with_record rec known r ≡ Ok view
-    → (before : View) × (r ≡ Ok before)
-unfolding view_with_record
-redone_before rec known (Ok before) view e = (before, refl)
-redone_before rec known (Err fault) view e = absurd (cc)
-
--- a redo position of the older records is one of the log
-redo_still : (rec : Rec) (older : List Rec) (redo : ℕ) → is_redo older redo ≡ true → is_redo (rec ∷ older) redo ≡ true
-redo_still rec older redo h =
-    elim (or_cases (redo == 0) (list_any (λ (r : Rec). has_redo redo r.start.0 (kind_of r.head r.kind)) older) h) [
-      | inl begins ↦ or_left (redo == 0) _ begins
-      | inr later ↦ or_right (redo == 0) _ (or_right (has_redo redo rec.start.0 (kind_of rec.head rec.kind)) _ later)
-    ]
-
-front_renews :
-    (table : Locator) (rec : Rec) (older : List Rec)
-    → ((redo : ℕ) → is_redo (rec ∷ older) redo ≡ true → renews_first table redo (rec ∷ older) ≡ true)
-    → (redo : ℕ) → is_redo older redo ≡ true → renews_first table redo older ≡ true
-unfolding renews_first
-front_renews table rec older renews redo h = (and_parts _ _ (renews redo (redo_still rec older redo h))).1
-
-front_tables :
-    (o : LogOrigin) (rec : Rec) (older : List Rec) (known : List Locator) → All (LegalTable o (rec ∷ older)) known
-    → All (LegalTable o older) known
-front_tables o rec older [] legal = All-nil (LegalTable o older)
-front_tables o rec older (table ∷ known) legal =
-    let first = All-head (LegalTable o (rec ∷ older)) table known legal in
-    All-cons (LegalTable o older) table known
-    (record { along = first.along.1; renews = front_renews table rec older first.renews })
-    (front_tables o rec older known (All-tail (LegalTable o (rec ∷ older)) table known legal))
-
-pub fronts_are_legal_holds : FrontsAreLegal
-unfolding Legal view_after
-fronts_are_legal_holds o known rec older legal =
-    let (view, redone) = redone_before rec known (view_after o known older) legal.view legal.redone in
-    record {
-      apart = All-tail (λ (r : Rec). are_apart r.blocks ≡ true) rec older legal.apart;
-      shutdowns = All-tail (λ (r : Rec). is_redo_own r ≡ true) rec older legal.shutdowns;
-      transactions = legal.transactions.1;
-      multixacts = legal.multixacts.1;
-      rows = front_tables o rec older known legal.rows;
-      view = view;
-      redone = redone;
     }

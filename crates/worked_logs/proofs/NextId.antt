@@ -2,7 +2,7 @@
 use Rattle.std.proofs.Common.{◌≡◌, ℕ, ◌<◌, ◌≤◌, Bool, true, false, ◌==◌, ◌||◌, nat_lt, [], ◌∷◌, arith, refl, subst, inl, inr}
 use Rattle.std.proofs.lemmas.Bool.{eqb-true, false_from_ne_true, false≢true, le-ltb, lt-ltb, or_cases, or_from, or_left}
 use Rattle.known_assigned.specs.Ids.{is_among}
-use Rattle.transaction_model.specs.Transactions.{ended, seen}
+use Rattle.transaction_model.specs.Transactions.{ended, named}
 use Rattle.transaction_model.specs.LegalTransactions.{IsNext, OnlineRule, RunningRule, ShutdownRule, before, greatest_next, last_redo, starts_at}
 use Rattle.xact_redo.specs.TransactionsOf.{transaction_of, transactions_of}
 use Rattle.row_model.specs.WorkedRows.{worked_ids, worked_log}
@@ -50,8 +50,8 @@ low_all x h =
       | inr later ↦ at_most 701 702 x (sees_first x) (omega arith) (low_first x) later
     ]
 
-seen_in_worked : (x : ℕ) → seen x (transactions_of worked_log) ≡ true → x < 702
-unfolding seen transaction_of
+seen_in_worked : (x : ℕ) → named x (transactions_of worked_log) ≡ true → x < 702
+unfolding named transaction_of
 seen_in_worked x h = low_all x h
 
 pub not_one : (n x : ℕ) → n < x → is_among x (n ∷ []) ≡ false
@@ -73,7 +73,7 @@ seen_one_more : (x : ℕ) (b : Bool) → (b ≡ true → x < 702) → ((0 == x) 
 seen_one_more x b rest h = at_most 0 702 x b (omega arith) rest h
 
 pub shutdown_rule : ShutdownRule worked_ids 702 (transactions_of (shutdown_elsewhere ∷ worked_log))
-unfolding seen ended greatest_next transaction_of
+unfolding named ended greatest_next transaction_of
 shutdown_rule =
     record {
       is_next =
@@ -91,7 +91,7 @@ unfolding before last_redo starts_at transaction_of
 alone_rule = record { is_start = refl; not_before = omega arith; is_next = is_next }
 
 pub running_rule : RunningRule worked_ids (nothing_head 702 701) [] (transactions_of (running_again ∷ worked_log))
-unfolding seen ended greatest_next transaction_of
+unfolding named ended greatest_next transaction_of
 running_rule =
     nothing_rule worked_ids 702 701 (transactions_of (running_again ∷ worked_log)) (omega arith)
     (record {

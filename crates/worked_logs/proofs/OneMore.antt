@@ -7,7 +7,7 @@ use Rattle.known_assigned.specs.Ids.{is_among}
 use Rattle.wal_bodies.specs.declared.types.RecBlock.{RecBlock}
 use Rattle.wal_bodies.specs.declared.types.Rec.{Rec}
 use Rattle.heap_redo.specs.declared.fault.RedoFault.{RedoFault}
-use Rattle.heap_redo.specs.Redone.{View}
+use Rattle.page_store.specs.Seen.{View}
 use Rattle.heap_redo.specs.After.{applied, after}
 use Rattle.wal_bodies.specs.HeapKinds.{same_locator}
 use Rattle.transaction_model.specs.LegalTransactions.{Legal, before}

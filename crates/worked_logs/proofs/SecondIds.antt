@@ -2,12 +2,12 @@
 use Rattle.std.proofs.Common.{◌≡◌, ℕ, ◌<◌, ◌≤◌, Bool, true, false, ◌==◌, ◌||◌, nat_lt, List, [], ◌∷◌, arith, refl, sym, ap, ◌∙◌, subst, inl, inr}
 use Rattle.std.proofs.lemmas.Bool.{both_ways, eq-eqb, eqb-true, false_from_ne_true, false≢true, le-ltb, lt-ltb, or_cases, or_from, or_left, or_right}
 use Rattle.known_assigned.specs.Ids.{is_among}
-use Rattle.transaction_model.specs.Transactions.{TransactionRecord, Live, committed, ended, seen}
+use Rattle.transaction_model.specs.Transactions.{TransactionRecord, Live, committed, ended, named}
 use Rattle.transaction_model.specs.LegalTransactions.{CommitRule, IsNext, Legal, OnlineRule, RunningRule, before, greatest_next, last_redo, starts_at}
 use Rattle.xact_redo.specs.TransactionsOf.{transaction_of, transactions_of}
 use Rattle.row_model.specs.WorkedRows.{worked_first, worked_ids, worked_log}
 use Rattle.std.specs.Prelude.{◌⊎◌, ◌+◌, if◌then◌else◌}
-use Rattle.transaction_model.specs.LegalTransactions.{AbortRule, OriginRule}
+use Rattle.transaction_model.specs.LegalTransactions.{AbortRule, TransactionOriginRule}
 use Rattle.known_assigned.specs.declared.state.RunningHead.{RunningHead}
 use Rattle.row_model.specs.WorkedRows.{worked_start, insert_by_700, nothing_runs, online_checkpoint}
 use Rattle.worked_logs.specs.SecondLog.{delete_by_701, insert_by_702, insert_by_703, running_701, second_aborted, second_checkpoint, second_ids, second_log, second_top}
@@ -21,7 +21,7 @@ top_from x false e = inr refl
 pub top_is : (x : ℕ) → ((x ≡ 703) × (second_top x ≡ 702)) ⊎ (second_top x ≡ x)
 top_is x = top_from x (x == 703) refl
 
-origin_rule : OriginRule second_ids
+origin_rule : TransactionOriginRule second_ids
 unfolding committed ended
 origin_rule =
     record {
@@ -139,8 +139,8 @@ first_below x h =
       | inr later ↦ at_most 700 701 x (sees_start x) (omega arith) (zeros_below x) later
     ]
 
-seen_first : (x : ℕ) → seen x (transactions_of worked_first) ≡ true → x < 701
-unfolding seen transaction_of
+seen_first : (x : ℕ) → named x (transactions_of worked_first) ≡ true → x < 701
+unfolding named transaction_of
 seen_first x h = first_below x h
 
 not_ended_first : (x : ℕ) → 701 ≤ x → ended second_ids.at x (transactions_of worked_first) ≡ false
@@ -155,7 +155,7 @@ unfolding greatest_next transaction_of
 next_701 = record { normal = omega arith; above_seen = seen_first; not_below = omega arith; none_ended = not_ended_first }
 
 running_next : IsNext second_ids.at 701 (transactions_of (running_701 ∷ worked_first))
-unfolding seen ended greatest_next transaction_of
+unfolding named ended greatest_next transaction_of
 running_next =
     record {
       normal = omega arith;

@@ -3,7 +3,7 @@
 use Rattle.std.specs.Prelude.{◌≡◌, ℕ, true, List, [], ◌∷◌, All, Ok}
 use Rattle.pg_types.specs.declared.names.Locator.{Locator}
 use Rattle.wal_bodies.specs.declared.types.Rec.{Rec}
-use Rattle.heap_redo.specs.Redone.{View}
+use Rattle.page_store.specs.Seen.{View}
 use Rattle.transaction_model.specs.LegalTransactions.{Legal}
 use Rattle.xact_redo.specs.TransactionsOf.{kind_of, transactions_of}
 use Rattle.row_model.specs.Origins.{LogOrigin}
@@ -70,9 +70,3 @@ abbrev pub KeepingIsLegal : Type 0
 KeepingIsLegal =
     (o : LogOrigin) (table : Locator) (log : List Rec) → ((clause : Clause) → Keeps clause o table log)
     → LegalLog o (table ∷ []) log
-
--- each front of a legal log is legal
-abbrev pub FrontsAreLegal : Type 0
-FrontsAreLegal =
-    (o : LogOrigin) (known : List Locator) (rec : Rec) (older : List Rec) → LegalLog o known (rec ∷ older)
-    → LegalLog o known older

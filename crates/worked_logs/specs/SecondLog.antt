@@ -10,7 +10,7 @@ use Rattle.wal_bodies.specs.declared.types.RecBlock.{RecBlock}
 use Rattle.wal_bodies.specs.declared.types.Rec.{Rec}
 use Rattle.wal_bodies.specs.declared.types.RecKind.TheVariants.{Checkpoint, Delete, Ended, Insert, Running}
 use Rattle.heap_tuple.specs.declared.tuple_view.MaxOf.TheVariants.{None as NoDeleter, Xid as DeletedBy}
-use Rattle.transaction_model.specs.LegalTransactions.{Origin}
+use Rattle.transaction_model.specs.LegalTransactions.{TransactionOrigin}
 use Rattle.row_model.specs.Versions.{Version, By}
 use Rattle.row_model.specs.Origins.{LogOrigin, committed_in, empty_table}
 use Rattle.row_model.specs.Multixacts.{multixacts}
@@ -23,7 +23,7 @@ use Rattle.row_model.specs.WorkedRows.{first_row, first_tuple, first_values, wor
 abbrev pub second_top : ℕ → ℕ
 second_top x = if x == 703 then 702 else x
 
-abbrev pub second_ids : Origin
+abbrev pub second_ids : TransactionOrigin
 second_ids =
     record { at = record { is_committed = λ (x : ℕ). false; is_aborted = λ (x : ℕ). false }; top = second_top }
 

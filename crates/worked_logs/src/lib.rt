@@ -6,7 +6,7 @@ ghost use Rattle.worked_logs.specs.BrokenLogs.{EachBreaks};
 ghost use Rattle.worked_logs.specs.CheckpointRules.{CheckpointRulesBreak};
 ghost use Rattle.worked_logs.specs.EndRules.{EndRulesBreak};
 ghost use Rattle.worked_logs.specs.SecondLog.{IsSecondLog};
-ghost use Rattle.worked_logs.specs.Clauses.{LegalKeeps, KeepingIsLegal, FrontsAreLegal};
+ghost use Rattle.worked_logs.specs.Clauses.{LegalKeeps, KeepingIsLegal};
 
 /// A legal log of one table keeps each clause.
 pub fn legal_keeps()
@@ -16,11 +16,6 @@ pub fn legal_keeps()
 /// A log of one table that keeps each clause is legal.
 pub fn keeping_is_legal()
     ensures { KeepingIsLegal }
-{}
-
-/// Each front of a legal log is legal.
-pub fn fronts_are_legal()
-    ensures { FrontsAreLegal }
 {}
 
 /// Each clause that the records read today can break is broken by a log that keeps all others.

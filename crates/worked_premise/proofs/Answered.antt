@@ -21,15 +21,15 @@ use Rattle.row_model.specs.Origins.{committed_in}
 use Rattle.row_model.specs.Rows.{IsRows, OneRows, is_row}
 use Rattle.row_model.specs.RowSteps.{births, births_written, block_count, count_with, own_steps, steps_in, versions, whole_steps}
 use Rattle.table_schema.specs.RowText.{bytes_text, cell_text}
-use Rattle.row_pages.specs.Pages.{values_of}
+use Rattle.row_pages.specs.Pages.{rows_of_versions}
 use Rattle.standby_core.specs.Standby.{described_in}
 use Rattle.standby_model.specs.Archived.{told_by}
 use Rattle.standby_model.specs.Laws.{OneLog}
 use Rattle.standby_model.specs.Log.{Stop, Ended}
 use Rattle.scan_model.specs.Run.{origin}
 use Rattle.scan_model.specs.Tables.{file_of, number_named}
-use Rattle.scan_model.specs.Scan.{Reply, Scanned, end_line, pages_from, pages_text, row_line, text_of}
-use Rattle.legal_scan.specs.Answer.{AnswersAdmitted, AnswersRows, AnswersStop, AnswersTable, LegalAnswer, admits, origin_with, page_with}
+use Rattle.scan_model.specs.Scan.{Answer, Scanned, end_line, pages_from, pages_text, row_line, text_of}
+use Rattle.legal_scan.specs.Answer.{AnswersAdmitted, AnswersLogRows, AnswersStop, AnswersTable, LegalAnswer, admits, origin_with, page_with}
 use Rattle.worked_archive.specs.WorkedArchive.{IsWorkedArchive, files, log}
 use Rattle.worked_premise.specs.WorkedSchema.{table_t, tables}
 use Rattle.worked_premise.specs.Premise.{FilesAreAnswered, reply, text, top}
@@ -63,7 +63,7 @@ rows_are =
     }
 
 scanned_is : Scanned 0x2000168 table_t 1 (pages_from (page_with tables 0 (inserted ∷ [])) 0 1) ≡ reply
-unfolding pages_from values_of row_of cells_from column_value has_value span_of varlena_at cell_of number_at
+unfolding pages_from rows_of_versions row_of cells_from column_value has_value span_of varlena_at cell_of number_at
 scanned_is = refl
 
 is_admitted : admits log ≡ true
@@ -74,13 +74,13 @@ named : number_named tables (codes "t") ≡ Some 0
 named = refl
 
 -- what a scan of these rows gives
-abbrev scan_of : ℕ → List Version → Reply
+abbrev scan_of : ℕ → List Version → Answer
 scan_of count rows = Scanned 0x2000168 table_t count (pages_from (page_with tables 0 rows) 0 count)
 
 counted : (rows : List Version) → scan_of (block_count (origin_with top) (file_of tables 0) log) rows ≡ scan_of 1 rows
 counted rows = ap (λ (count : ℕ). scan_of count rows) one_block
 
-answers_rows : AnswersRows tables top log 0 0x2000168 reply
+answers_rows : AnswersLogRows tables top log 0 0x2000168 reply
 answers_rows = record { rows = inserted ∷ []; are_rows = rows_are; says = sym (counted (inserted ∷ []) ∙ scanned_is) }
 
 answers_table : AnswersTable tables top log (number_named tables (codes "t")) reply
@@ -89,13 +89,13 @@ answers_table =
     (subst (λ (b : Bool). AnswersAdmitted b tables top log 0 0x2000168 reply) (sym is_admitted) answers_rows)
 
 -- an answer over the rows is this one
-rows_only : OneRows → (other : Reply) → AnswersRows tables top log 0 0x2000168 other → other ≡ reply
+rows_only : OneRows → (other : Answer) → AnswersLogRows tables top log 0 0x2000168 other → other ≡ reply
 rows_only one other a =
     let same : a.rows ≡ inserted ∷ [] =
     one (multixacts log) (committed_in (origin_with top) log) (versions (origin_with top) (file_of tables 0) log) a.rows (inserted ∷ []) a.are_rows rows_are in
     a.says ∙ (counted a.rows ∙ (ap (λ (rows : List Version). scan_of 1 rows) same ∙ scanned_is))
 
-table_only : OneRows → (other : Reply) → AnswersTable tables top log (number_named tables (codes "t")) other → other ≡ reply
+table_only : OneRows → (other : Answer) → AnswersTable tables top log (number_named tables (codes "t")) other → other ≡ reply
 table_only one other a =
     rows_only one other
     (subst (λ (b : Bool). AnswersAdmitted b tables top log 0 0x2000168 other) is_admitted
@@ -103,13 +103,13 @@ table_only one other a =
 
 -- an answer over a log that is this one, by its end
 ends_so :
-    (told : List Rec) (stop : Stop) (other : Reply) → told ≡ log → stop ≡ Ended Zero
+    (told : List Rec) (stop : Stop) (other : Answer) → told ≡ log → stop ≡ Ended Zero
     → AnswersStop tables top (codes "t") told stop other → AnswersTable tables top log (number_named tables (codes "t")) other
 ends_so told stop other l s a =
     subst (λ (stop : Stop). AnswersStop tables top (codes "t") log stop other) s
     (subst (λ (told : List Rec). AnswersStop tables top (codes "t") told stop other) l a)
 
-only : IsWorkedArchive → OneLog → OneRows → (other : Reply) → LegalAnswer tables top files (codes "t") other → other ≡ reply
+only : IsWorkedArchive → OneLog → OneRows → (other : Answer) → LegalAnswer tables top files (codes "t") other → other ≡ reply
 only worked one_log one_rows other a =
     let (same, end) = one_log (told_by files) (described_in tables) origin.redo.0 a.log log a.stop (Ended Zero) a.is_log (is_log worked) in
     table_only one_rows other (ends_so a.log a.stop other same end a.says)

@@ -10,7 +10,7 @@ use Rattle.row_model.specs.WorkedRows.{worked_origin}
 use Rattle.scan_model.specs.Run.{origin}
 use Rattle.worked_archive.specs.WorkedArchive.{IsWorkedArchive, files, known, log}
 use Rattle.worked_logs.specs.ArchiveLog.{ArchiveIsLegal}
-use Rattle.worked_logs.specs.Clauses.{FrontsAreLegal}
+use Rattle.row_model.specs.Prefixes.{PrefixIsLegal}
 use Rattle.worked_premise.specs.WorkedSchema.{tables}
 use Rattle.worked_premise.specs.Premise.{FilesAreLegal}
 use Rattle.worked_premise.proofs.Told.{is_log}
@@ -66,7 +66,7 @@ module _ (told : Told) (from : ℕ) where
       ]
 
 legal_front :
-    FrontsAreLegal → (log other : List Rec) → LegalLog worked_origin known log → IsFront other log
+    PrefixIsLegal → (log other : List Rec) → LegalLog worked_origin known log → IsFront other log
     → LegalLog worked_origin known other
 legal_front fronts [] other legal front = subst (λ (l : List Rec). LegalLog worked_origin known l) (sym front) legal
 legal_front fronts (rec ∷ older) other legal (inl e) =
@@ -74,7 +74,7 @@ legal_front fronts (rec ∷ older) other legal (inl e) =
 legal_front fronts (rec ∷ older) other legal (inr front) =
     legal_front fronts older other (fronts worked_origin known rec older legal) front
 
-pub files_are_legal : IsWorkedArchive → ArchiveIsLegal → FrontsAreLegal → FilesAreLegal
+pub files_are_legal : IsWorkedArchive → ArchiveIsLegal → PrefixIsLegal → FilesAreLegal
 files_are_legal worked legal fronts other stands =
     let whole = is_log worked in
     legal_front fronts log other legal (is_front (told_by files) origin.redo.0 log _ whole other stands)

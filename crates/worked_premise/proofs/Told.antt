@@ -12,7 +12,8 @@ use Rattle.pg_types.specs.declared.names.Lsn.{Lsn}
 use Rattle.wal_bodies.specs.declared.types.Rec.{Rec}
 use Rattle.standby_core.specs.Standby.{described_in}
 use Rattle.standby_model.specs.Archived.{told_by}
-use Rattle.standby_model.specs.Log.{IsLog, Stands, Ended, end_of, link_after, next_of, record_at, typed_of, unless_refused}
+use Rattle.wal_bodies.specs.Ends.{end_of}
+use Rattle.standby_model.specs.Log.{IsLog, Stands, Ended, link_after, next_of, record_at, typed_of, unless_refused}
 use Rattle.scan_model.specs.Run.{origin}
 use Rattle.worked_premise.specs.WorkedSchema.{tables}
 use Rattle.worked_archive.specs.WorkedArchive.{AreTyped, IsWorkedArchive, entries, files, log}

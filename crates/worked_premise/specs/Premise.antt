@@ -10,7 +10,7 @@ use Rattle.standby_core.specs.Standby.{described_in}
 use Rattle.standby_model.specs.Archived.{told_by}
 use Rattle.standby_model.specs.Log.{IsLog, Ended}
 use Rattle.scan_model.specs.Run.{origin}
-use Rattle.scan_model.specs.Scan.{Reply, Scanned, Scans, Starts, Answers, line, status_of, text_of}
+use Rattle.scan_model.specs.Scan.{Answer, Scanned, Scans, Starts, Answers, line, exit_status, text_of}
 use Rattle.legal_scan.specs.Answer.{IsLegal, LegalAnswer}
 use Rattle.worked_archive.specs.WorkedArchive.{files, log}
 use Rattle.worked_premise.specs.WorkedSchema.{base, table_t, tables}
@@ -28,7 +28,7 @@ abbrev pub row : List Cell
 row = IntCell (pos 1) ∷ BytesCell (codes "one") ∷ []
 
 -- a scan at the end of the commit, of t, which has one block with that row
-abbrev pub reply : Reply
+abbrev pub reply : Answer
 reply = Scanned 0x2000168 table_t 1 (record { rows = row ∷ []; end = Whole } ∷ [])
 
 -- its lines, with a tab (9) between the values
@@ -40,9 +40,9 @@ text = line (codes "scan 1 at 0/2000168") ++ line (codes "row 1" ++ 9 ∷ codes 
 pub record FilesAreAnswered : Type 0 where
   pub is_log : IsLog (told_by files) (described_in tables) origin.redo.0 log (Ended Zero)
   pub answers : LegalAnswer tables top files (codes "t") reply
-  pub only : (other : Reply) → LegalAnswer tables top files (codes "t") other → other ≡ reply
+  pub only : (other : Answer) → LegalAnswer tables top files (codes "t") other → other ≡ reply
   pub says : text_of reply ≡ text
-  pub status : status_of reply ≡ 0
+  pub status : exit_status reply ≡ 0
 
 -- the words `scan t`
 abbrev pub words : List (List ℕ)
@@ -53,4 +53,4 @@ words = codes "scan" ∷ codes "t" ∷ []
 pub record ScanIsAnswered : Type 0 where
   pub starts : Starts words base (Scans tables (codes "t"))
   pub answers : Answers words base files reply
-  pub only : (other : Reply) → Answers words base files other → other ≡ reply
+  pub only : (other : Answer) → Answers words base files other → other ≡ reply

@@ -16,7 +16,7 @@ pub fn files_are_legal()
 {
     worked_archive::worked_archive();
     worked_logs::archive_is_legal();
-    worked_logs::fronts_are_legal();
+    row_model::prefix_is_legal();
 }
 
 /// And `scan t` over them is answered by the one row that was committed, in this text.

@@ -13,8 +13,8 @@ abbrev pub is_commit : RecordHead → Bool
 is_commit head = bit_and head.info 0x70 == 0x00
 
 -- of a checkpoint: it was made at shutdown, and not online (XLOG_CHECKPOINT_SHUTDOWN, pg_control.h)
-abbrev pub is_shutdown : RecordHead → Bool
-is_shutdown head = bit_and head.info 0xF0 == 0x00
+abbrev pub at_shutdown : RecordHead → Bool
+at_shutdown head = bit_and head.info 0xF0 == 0x00
 
 -- a commit or an abort, the running transactions, a checkpoint at shutdown or online; all other records say nothing
 -- but the id of their header
@@ -23,7 +23,7 @@ kind_of head (rec.Ended time xinfo xids) = if is_commit head then Commit (number
 kind_of head (rec.Running tops subs overflow next oldest latest xids) =
     Running (record { overflow = overflow; tops = tops; next = next; oldest = oldest; latest = latest }) (numbers xids)
 kind_of head (rec.Checkpoint redo timeline previous writes next multi member oldest active) =
-    if is_shutdown head then Shutdown next.0 else Online redo.0 next.0
+    if at_shutdown head then Shutdown next.0 else Online redo.0 next.0
 kind_of head _ = Other
 
 unfoldable pub transaction_of : Rec → TransactionRecord

@@ -4,7 +4,7 @@ ghost use Rattle.commit_log.specs.Log.{changed_after, reserved_end, status_after
 ghost use Rattle.known_assigned.specs.Ids.{greatest, numbers};
 ghost use Rattle.known_assigned.specs.Known.{after_end, after_running, after_shutdown};
 ghost use Rattle.xact_redo.specs.State.{AreIdsInRange, HasRoom, has_ended, last_named_in, outcome_of, shows_ended, state_after, still_live, transactions};
-ghost use Rattle.xact_redo.specs.TransactionsOf.{is_shutdown};
+ghost use Rattle.xact_redo.specs.TransactionsOf.{at_shutdown};
 
 use crate::state::XactState;
 use known_assigned::RunningHead;
@@ -121,7 +121,7 @@ pub(crate) fn has_ended(status: Status) -> bool
 #[tactic(auto, unfolding(crate::specs::State::transactions))]
 fn see_checkpoint(head: RecordHead, next: Xid, state: &mut XactState)
     requires { next.0 ≤ 2 ^ 63 + 2 ^ 32 }
-    ensures { transactions state.new ≡ (if is_shutdown head then record (transactions state.old) { known = after_shutdown (transactions state.old).known next.0 } else transactions state.old) }
+    ensures { transactions state.new ≡ (if at_shutdown head then record (transactions state.old) { known = after_shutdown (transactions state.old).known next.0 } else transactions state.old) }
 {
     if head.info & 0xF0 == 0x00 {
         state.known.shutdown(next);

@@ -2,7 +2,8 @@ use Rattle.std.proofs.Common.{ap, sym, ◌∙◌, ◌≡◌, Some, is_ok}
 use Rattle.std.proofs.lemmas.Result.{on_err_weaker}
 use Rattle.page_store.specs.Content.{content, with_block}
 use Rattle.heap_redo.specs.Refused.{pool_fault_at}
-use Rattle.heap_redo.specs.Redone.{view_of, redone_block, seen, fault_by}
+use Rattle.page_store.specs.Seen.{view_of, seen}
+use Rattle.heap_redo.specs.Redone.{redone_block, fault_by}
 use Rattle.heap_redo.proofs.OneBlock.{below-last}
 use Rattle.heap_redo.proofs.Views.{view-with_block, with_block-same, page-there, page-outcome, missing-outcome, err-is}
 use Rattle.heap_redo.proofs.replay.change.Goals as goal

@@ -1,6 +1,7 @@
 use Rattle.std.proofs.Common.{ap, ◌∙◌, inr, Some, is_ok}
 use Rattle.page_store.specs.Content.{content, filled_below}
-use Rattle.heap_redo.specs.Redone.{view_of, redone_block, seen, with_seen}
+use Rattle.page_store.specs.Seen.{view_of, seen}
+use Rattle.heap_redo.specs.Redone.{redone_block, with_seen}
 use Rattle.heap_redo.proofs.Views.{view-with_block, view-filled, anew-outcome}
 use Rattle.heap_redo.proofs.replay.rebuild.Goals as goal
 

@@ -3,7 +3,8 @@ use Rattle.pg_types.specs.declared.names.Tag.{Tag}
 use Rattle.heap_redo.specs.After.{no_page}
 use Rattle.heap_redo.specs.Refused.{fault_at}
 use Rattle.page_store.specs.Content.{content}
-use Rattle.heap_redo.specs.Redone.{view_of, redone_block, redone_in, redone_at, view_by}
+use Rattle.page_store.specs.Seen.{view_of}
+use Rattle.heap_redo.specs.Redone.{redone_block, redone_in, redone_at, view_by}
 use Rattle.heap_redo.proofs.OneBlock.{other-block, last-refused, left-kept}
 use Rattle.heap_redo.proofs.Views.{left-outcome, err-is, followed}
 use Rattle.heap_redo.proofs.replay.redo_block.Goals as goal

@@ -2,7 +2,8 @@ use Rattle.std.proofs.Common.{arith, ap, sym, refl, ◌∙◌, ◌≡◌, ◌++�
 use Rattle.std.proofs.lemmas.Grind.{common_steps}
 use Rattle.page_store.specs.Content.{content}
 use Rattle.heap_redo.specs.declared.fault.RedoFault.{RedoFault}
-use Rattle.heap_redo.specs.Redone.{View, Outcome, view_of, redone, redone_at, Stands}
+use Rattle.page_store.specs.Seen.{View, view_of}
+use Rattle.heap_redo.specs.Redone.{Outcome, redone, redone_at, Stands}
 use Rattle.heap_redo.proofs.Sequence.{redone-none, redone-more, redone-stops, redone-front, next-there}
 use Rattle.heap_redo.proofs.replay.redo_blocks.Goals as goal
 

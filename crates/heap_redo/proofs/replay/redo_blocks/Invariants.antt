@@ -1,6 +1,7 @@
 use Rattle.std.proofs.Common.{◌≡◌, Ok, ◌++◌}
 use Rattle.page_store.specs.Content.{content, table_count}
-use Rattle.heap_redo.specs.Redone.{view_of, redone}
+use Rattle.page_store.specs.Seen.{view_of}
+use Rattle.heap_redo.specs.Redone.{redone}
 use Rattle.heap_redo.proofs.replay.redo_blocks.Given as goal
 
 abbrev pub invariant-loop-block : goal.invariant-loop-block

@@ -5,7 +5,8 @@ use Rattle.page_store.specs.Content.{content, filled_below}
 use Rattle.heap_redo.specs.After.{bad_page, page_of_image}
 use Rattle.heap_redo.specs.Refused.{fault_at, pool_fault_at}
 use Rattle.heap_redo.specs.declared.fault.RedoFault.TheVariants.{Memory}
-use Rattle.heap_redo.specs.Redone.{view_of, view_by, redone_block, seen, with_seen}
+use Rattle.page_store.specs.Seen.{view_of, seen}
+use Rattle.heap_redo.specs.Redone.{view_by, redone_block, with_seen}
 use Rattle.heap_redo.proofs.OneBlock.{below-last, image-refused, image-left, image-done}
 use Rattle.heap_redo.proofs.Views.{view-with_block, view-filled, image-outcome, err-is, is_ok-by}
 use Rattle.heap_redo.proofs.replay.restore.Goals as goal

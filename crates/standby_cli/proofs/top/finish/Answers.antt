@@ -1,6 +1,6 @@
 use Rattle.std.proofs.Common.{◌⊎◌, ◌∙◌, ℕ, inl, subst, sym, lit<}
-use Rattle.standby_cli.specs.Outcome.{IsReplied}
-use Rattle.standby_cli.proofs.Pages.{no_fault, replied}
+use Rattle.standby_cli.specs.Outcome.{IsAnswerStatus}
+use Rattle.standby_cli.proofs.Statuses.{no_fault, replied}
 use Rattle.std.specs.Prelude.{codes}
 use Rattle.outside.specs.Faults.{Rose}
 use Rattle.standby_cli.specs.Meaning.{reply_meaning}
@@ -24,7 +24,7 @@ returns-in-Err-Memory-clause-memory_line g c = λ twelve.
 
 pub returns-in-Ok-clause-statuses : goal.returns-in-Ok-clause-statuses
 returns-in-Ok-clause-statuses g c =
-    inl (subst (λ (n : ℕ). IsReplied n) (sym c.in-Ok.ensures.status) (replied (reply_meaning c.args.reply)))
+    inl (subst (λ (n : ℕ). IsAnswerStatus n) (sym c.in-Ok.ensures.status) (replied (reply_meaning c.args.reply)))
 
 pub returns-in-Ok-clause-sink_failed : goal.returns-in-Ok-clause-sink_failed
 returns-in-Ok-clause-sink_failed g c = λ nine.

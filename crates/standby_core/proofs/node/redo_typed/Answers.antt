@@ -1,7 +1,7 @@
 use Rattle.std.proofs.Common.{Err, sym, subst}
 use Rattle.page_store.specs.Content.{content}
 use Rattle.table_schema.specs.Description.{locators}
-use Rattle.heap_redo.specs.Redone.{view_of}
+use Rattle.page_store.specs.Seen.{view_of}
 use Rattle.standby_core.specs.Steps.{TypedRedone}
 use Rattle.standby_core.proofs.Replaying.{blocks_stopped}
 use Rattle.standby_core.proofs.node.redo_typed.Goals as goal

@@ -2,7 +2,7 @@ use Rattle.std.proofs.Common.{◌≡◌, ◌∙◌, Err, ap, arith, refl, sym, s
 use Rattle.std.proofs.lemmas.Grind.{common_steps}
 use Rattle.page_store.specs.Content.{content}
 use Rattle.table_schema.specs.Description.{locators}
-use Rattle.heap_redo.specs.Redone.{view_of}
+use Rattle.page_store.specs.Seen.{view_of}
 use Rattle.wal_bodies.specs.Typed.{typed}
 use Rattle.xact_redo.specs.State.{transactions}
 use Rattle.standby_core.specs.declared.types.Stopped.TheVariants.{Refused}
