@@ -58,7 +58,7 @@ def check_sizes():
 
 def check_notations():
     notes = sorted((TOP / "crates").glob("*/data/**/*.note"))
-    cases = [path for path in sorted((TOP / "crates").glob("*/stdin")) if " | " in path.read_text()]
+    cases = [path for path in sorted((TOP / "crates").glob("*/stdin")) if " | " in path.read_text(errors="replace")]
     wrong.extend(walnote.wrong([*notes, *cases]))
 
 

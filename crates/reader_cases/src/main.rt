@@ -40,7 +40,7 @@ enum Why {
 
 /// Where and why no record is read.
 #[derive(Clone, Copy, PartialEq, Eq)]
-struct Stop {
+struct Ending {
     at: u64,
     why: Why,
 }
@@ -49,7 +49,7 @@ struct Stop {
 #[derive(Clone, Copy, PartialEq, Eq)]
 struct Outcome {
     records: u32,
-    stop: Stop,
+    stop: Ending,
 }
 
 /// What is changed in a log.
@@ -250,18 +250,18 @@ fn read(
         };
         return Ok(Outcome {
             records,
-            stop: Stop { at, why },
+            stop: Ending { at, why },
         });
     }
     let (at, why) = (place.from, Why::Fault);
     Ok(Outcome {
         records: 9,
-        stop: Stop { at, why },
+        stop: Ending { at, why },
     })
 }
 
 /// Where and why the answer is no record.
-fn stop_of(answer: Result<Next, ReadFault>) -> Option<Stop> {
+fn stop_of(answer: Result<Next, ReadFault>) -> Option<Ending> {
     let (at, why) = match answer {
         Ok(Next::Record { .. }) => return None,
         Ok(Next::AtEnd { lsn, why }) => (lsn.0, Why::End(why)),
@@ -269,5 +269,5 @@ fn stop_of(answer: Result<Next, ReadFault>) -> Option<Stop> {
         Err(ReadFault::TooLong { lsn }) => (lsn.0, Why::TooLong),
         Err(ReadFault::Log | ReadFault::Memory) => (0, Why::Fault),
     };
-    Some(Stop { at, why })
+    Some(Ending { at, why })
 }

@@ -1,10 +1,13 @@
-//! Runs `scan t` over small logs, with all objects in memory, and prints each answer's status and text. The
-//! logs, in data/cases, are made of their notation, in data/cases.note, by an assembler of log records that
-//! shares nothing with this product, and what has to be printed, in the file stdout, was worked out by hand.
+//! Runs `scan t` over small logs and small descriptions of tables, with all objects in memory, and prints each
+//! answer's status and text. The logs, in data/cases, are made of their notation, in data/cases.note, by an
+//! assembler of log records that shares nothing with this product. The descriptions, in data/schemas, were
+//! written and what has to be printed, in the file stdout, was worked out by hand.
 #![tactic(auto)]
 
+mod schemas;
+
 use case_text::{bytes, number_u32};
-use outside::{Archive, MemoryArchive, MemorySink, SteadyArchive, SteadySink};
+use outside::{Archive, BaseDir, MemoryArchive, MemorySink, SteadyArchive, SteadyBase, SteadySink};
 use standby_cli::standby_main;
 use std::alloc::{AllocError, Global};
 use std::{fs, io};
@@ -95,25 +98,28 @@ const SEGMENTED: [(&str, &[u8]); 4] = [
 ];
 
 fn main(rt: HostRuntime) -> io::Result<()> {
+    let mut base = base_of(&rt, "worked")?;
     for name in CASES {
         let mut archive = archive_of(&rt, name)?;
-        report(&rt, name, &["scan", "t"], &mut archive)?;
+        report(&rt, name, &["scan", "t"], &mut archive, &mut base)?;
     }
     for (name, segments) in SEGMENTED {
         let mut archive = SteadyArchive::new(rt.alloc());
         for segment in segments {
             put_segment(&rt, name, *segment, &mut archive)?;
         }
-        report(&rt, name, &["scan", "t"], &mut archive)?;
+        report(&rt, name, &["scan", "t"], &mut archive, &mut base)?;
     }
-    cut_at_segment_end(&rt)?;
-    other_words(&rt)?;
-    failures(&rt)
+    cut_at_segment_end(&rt, &mut base)?;
+    other_words(&rt, &mut base)?;
+    failures(&rt, &mut base)?;
+    schemas::cases(&rt)?;
+    schemas::failures(&rt)
 }
 
 /// A record that begins 32 bytes before a segment's end, behind one that fills the rest of the segment, whose
 /// file is kept in hex.
-fn cut_at_segment_end(rt: &HostRuntime) -> io::Result<()> {
+fn cut_at_segment_end(rt: &HostRuntime, base: &mut SteadyBase) -> io::Result<()> {
     let name = "cut_at_segment_end";
     let hex = fs::read_to_string(rt, "whole_segments/cut_at_segment_end.2")?;
     let segment = segment_of(rt.alloc(), hex.as_str())?;
@@ -122,7 +128,7 @@ fn cut_at_segment_end(rt: &HostRuntime) -> io::Result<()> {
         .put(rt.alloc(), SEGMENT_FILE, segment.as_slice())
         .map_err(|_| AllocError)?;
     put_segment(rt, name, 3, &mut archive)?;
-    report(rt, name, &["scan", "t"], &mut archive)
+    report(rt, name, &["scan", "t"], &mut archive, base)
 }
 
 /// The bytes of a whole segment, most of which are runs of zeros.
@@ -160,7 +166,7 @@ fn put_segment(
 }
 
 /// Words other than `scan t`, each over the log of a case.
-fn other_words(rt: &HostRuntime) -> io::Result<()> {
+fn other_words(rt: &HostRuntime, base: &mut SteadyBase) -> io::Result<()> {
     let cases: [(&str, &str, &[&str]); 10] = [
         ("no words", "plain", &[]),
         ("one word", "plain", &["scan"]),
@@ -179,36 +185,37 @@ fn other_words(rt: &HostRuntime) -> io::Result<()> {
     ];
     for (name, log, texts) in cases {
         let mut archive = archive_of(rt, log)?;
-        report(rt, name, texts, &mut archive)?;
+        report(rt, name, texts, &mut archive, base)?;
     }
     Ok(())
 }
 
 /// An archive without the segment, one that fails, and a sink whose second write fails after half of its
 /// bytes.
-fn failures(rt: &HostRuntime) -> io::Result<()> {
+fn failures(rt: &HostRuntime, base: &mut SteadyBase) -> io::Result<()> {
     let mut empty = SteadyArchive::new(rt.alloc());
-    report(rt, "absent segment", &["scan", "t"], &mut empty)?;
+    report(rt, "absent segment", &["scan", "t"], &mut empty, base)?;
     let files = archive_of(rt, "plain")?;
     let mut failing = MemoryArchive::new(rt.alloc(), files, &[1]).map_err(|_| AllocError)?;
-    report(rt, "failing archive", &["scan", "t"], &mut failing)?;
+    report(rt, "failing archive", &["scan", "t"], &mut failing, base)?;
     let words = words_of(rt.alloc(), &["scan", "t"])?;
     let mut archive = archive_of(rt, "plain")?;
     let mut out = MemorySink::new(rt.alloc(), &[2]).map_err(|_| AllocError)?;
-    let status = standby_main(rt.alloc(), words.as_slice(), &mut archive, &mut out);
+    let status = standby_main(rt.alloc(), words.as_slice(), &mut archive, base, &mut out);
     print_answer(rt, "failing sink", status, out.written.as_slice())
 }
 
 /// Answers the words, and prints the status and the text.
-fn report<A: Archive>(
+pub fn report<A: Archive, B: BaseDir>(
     rt: &HostRuntime,
     name: &str,
     texts: &[&str],
     archive: &mut A,
+    base: &mut B,
 ) -> io::Result<()> {
     let words = words_of(rt.alloc(), texts)?;
     let mut out = SteadySink::new(rt.alloc());
-    let status = standby_main(rt.alloc(), words.as_slice(), archive, &mut out);
+    let status = standby_main(rt.alloc(), words.as_slice(), archive, base, &mut out);
     print_answer(rt, name, status, out.as_slice())
 }
 
@@ -235,7 +242,7 @@ fn words_of(alloc: Global, texts: &[&str]) -> Result<Vec<String>, AllocError> {
 }
 
 /// An archive with the segment of a case.
-fn archive_of(rt: &HostRuntime, name: &str) -> io::Result<SteadyArchive> {
+pub fn archive_of(rt: &HostRuntime, name: &str) -> io::Result<SteadyArchive> {
     let path = format!(in rt.alloc(); "cases/{name}")?;
     let bytes = fs::read(rt, path.as_str())?;
     let mut archive = SteadyArchive::new(rt.alloc());
@@ -243,4 +250,14 @@ fn archive_of(rt: &HostRuntime, name: &str) -> io::Result<SteadyArchive> {
         .put(rt.alloc(), SEGMENT_FILE, bytes.as_slice())
         .map_err(|_| AllocError)?;
     Ok(archive)
+}
+
+/// A base folder with a description.
+pub fn base_of(rt: &HostRuntime, name: &str) -> io::Result<SteadyBase> {
+    let path = format!(in rt.alloc(); "schemas/{name}")?;
+    let bytes = fs::read(rt, path.as_str())?;
+    let mut base = SteadyBase::new(rt.alloc());
+    base.put(rt.alloc(), "schema.toml", bytes.as_slice())
+        .map_err(|_| AllocError)?;
+    Ok(base)
 }

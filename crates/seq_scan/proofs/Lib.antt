@@ -1,2 +1,3 @@
 pub mod PageLoop
 pub mod PageAnswer
+mod Printing

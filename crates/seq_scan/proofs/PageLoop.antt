@@ -12,7 +12,7 @@ use Rattle.seq_scan.specs.declared.line.Found.TheVariants.{Nothing, Row, End}
 use Rattle.seq_scan.specs.Meaning.{end_of, before, with_item, behind}
 
 -- whether a tuple is seen
-abbrev Sees : Type 0
+abbrev pub Sees : Type 0
 Sees = List ℕ → Result Bool Unknown
 
 first_line : (columns : List Column) (sees : Sees) (line : ℕ) (item : Item) (items : List Item) → rows_from columns sees line (item ∷ items) ≡ with_item columns sees line item (rows_from columns sees (line + 1) items)
@@ -34,12 +34,15 @@ lines_behind columns sees items k = rows_from columns sees (k + 1) (drop k items
 numbered_next : (items : List Item) (k : ℕ) → get_or items k unused ≡ numbered items (k + 1)
 numbered_next items k = sym (ap (numbered items) (add-one k))
 
-next_line : (columns : List Column) (sees : Sees) (items : List Item) (k : ℕ) (found : Found) → k < length items → IsFound columns sees items k found → lines_behind columns sees items k ≡ before found (lines_behind columns sees items (k + 1))
-next_line columns sees items k found h is =
+-- the lines from there on are the line and those behind it
+pub next_item : (columns : List Column) (sees : Sees) (items : List Item) (k : ℕ) → k < length items → lines_behind columns sees items k ≡ with_item columns sees (k + 1) (numbered items (k + 1)) (lines_behind columns sees items (k + 1))
+next_item columns sees items k h =
     ap (rows_from columns sees (k + 1)) (drop_more items k unused h)
     ∙ first_line columns sees (k + 1) (get_or items k unused) (drop (k + 1) items)
     ∙ ap (λ item. with_item columns sees (k + 1) item (lines_behind columns sees items (k + 1))) (numbered_next items k)
-    ∙ sym (is (lines_behind columns sees items (k + 1)))
+
+next_line : (columns : List Column) (sees : Sees) (items : List Item) (k : ℕ) (found : Found) → k < length items → IsFound columns sees items k found → lines_behind columns sees items k ≡ before found (lines_behind columns sees items (k + 1))
+next_line columns sees items k found h is = next_item columns sees items k h ∙ sym (is (lines_behind columns sees items (k + 1)))
 
 -- a line that gives no row
 pub nothing_read : (columns : List Column) (sees : Sees) (items : List Item) (k : ℕ) (found : Found) (rows more : List (List Cell)) (whole : BlockRows) → k < length items → IsFound columns sees items k found → behind rows (lines_behind columns sees items k) ≡ whole → found ≡ Nothing → more ≡ rows → behind more (lines_behind columns sees items (k + 1)) ≡ whole

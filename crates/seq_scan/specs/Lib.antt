@@ -1,2 +1,3 @@
 pub mod BlockRows
 pub mod Meaning
+pub mod Printed

@@ -3,7 +3,9 @@
 
 mod block;
 mod line;
+mod print;
 mod rows;
 
 pub use block::read_block;
+pub use print::print_block;
 pub use rows::{BlockEnd, BlockRows, Rows};

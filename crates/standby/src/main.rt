@@ -1,20 +1,27 @@
 //! The program: `standby scan TABLE` prints the rows of a table as the archived log leaves them.
 #![tactic(auto)]
 
-use outside::{FolderArchive, StdoutSink};
+use outside::{Folder, StdoutSink};
 use standby_cli::standby_main;
 use std::process::ExitCode;
 use std::{env, io};
 
-/// Hands the program's words over, without its name, with the folder `archive` and standard output, and
-/// ends with the status.
+/// Hands the program's words over, without its name, with the folders `archive` and `base` and standard
+/// output, and ends with the status.
 fn main(rt: HostRuntime) -> io::Result<ExitCode> {
     let mut words = Vec::new(rt.alloc());
     for word in env::args(&rt)?.skip(1) {
         words.push(word)?;
     }
-    let mut archive = FolderArchive::new(rt.alloc(), &rt);
+    let mut archive = Folder::archive(rt.alloc(), &rt);
+    let mut base = Folder::base(rt.alloc(), &rt);
     let mut out = StdoutSink::new(&rt);
-    let status = standby_main(rt.alloc(), words.as_slice(), &mut archive, &mut out);
+    let status = standby_main(
+        rt.alloc(),
+        words.as_slice(),
+        &mut archive,
+        &mut base,
+        &mut out,
+    );
     Ok(ExitCode::from(status))
 }

@@ -36,33 +36,36 @@ cut_off trouble worse before between now text fault_line f (front, lines, is, p)
     (front, lines, is, line_after trouble worse before between now front fault_line f p q)
 
 cut_off_any :
-    (words : List (List ℕ)) (file : List ℕ → Option (List ℕ)) (given : Answer) (front : List ℕ) → Answers words file given
-    → IsFront front (text_of given) → (reply : Answer) → Answers words file reply → IsFront front (text_of reply)
-cut_off_any words file given front a is reply b =
-    subst (λ (r : Answer). IsFront front (text_of r)) (one_answer_holds words file given reply a b) is
+    (words : List (List ℕ)) (base files : List ℕ → Option (List ℕ)) (given : Answer) (front : List ℕ) → Answers words base files given
+    → IsFront front (text_of given) → (reply : Answer) → Answers words base files reply → IsFront front (text_of reply)
+cut_off_any words base files given front a is reply b =
+    subst (λ (r : Answer). IsFront front (text_of r)) (one_answer_holds words base files given reply a b) is
 
 front_of :
-    (words : List (List ℕ)) (files : Option (List ℕ → Option (List ℕ))) (given : Answer) (front : List ℕ)
-    → IfSome files (λ fs. Answers words fs given) → IsFront front (text_of given) → IsFrontOfAnswer words files front
-front_of words None given front a is = tt
-front_of words (Some fs) given front a is = cut_off_any words fs given front a is
+    (words : List (List ℕ)) (base files : Option (List ℕ → Option (List ℕ))) (given : Answer) (front : List ℕ)
+    → IfSome base (λ described. IfSome files (λ fs. Answers words described fs given)) → IsFront front (text_of given)
+    → IsFrontOfAnswer words base files front
+front_of words None files given front a is = tt
+front_of words (Some described) None given front a is = tt
+front_of words (Some described) (Some fs) given front a is = cut_off_any words described fs given front a is
 
 -- what was cut off of the answer that was computed was cut off of any answer, since there is but one
 pub cut_off_answer :
-    (trouble : Type 0) (before now : Option (List ℕ)) (words : List (List ℕ)) (files : Option (List ℕ → Option (List ℕ)))
-    (given : Answer) (fault_line : List ℕ) → IfSome files (λ fs. Answers words fs given)
+    (trouble : Type 0) (before now : Option (List ℕ)) (words : List (List ℕ)) (base files : Option (List ℕ → Option (List ℕ)))
+    (given : Answer) (fault_line : List ℕ) → IfSome base (λ described. IfSome files (λ fs. Answers words described fs given))
     → CutsOff trouble before now fault_line (λ front. IsFront front (text_of given))
-    → CutsOff trouble before now fault_line (IsFrontOfAnswer words files)
-cut_off_answer trouble before now words files given fault_line a (front, lines, is, p) =
-    (front, lines, front_of words files given front a is, p)
+    → CutsOff trouble before now fault_line (IsFrontOfAnswer words base files)
+cut_off_answer trouble before now words base files given fault_line a (front, lines, is, p) =
+    (front, lines, front_of words base files given front a is, p)
 
-nothing_of_answer : (words : List (List ℕ)) (files : Option (List ℕ → Option (List ℕ))) → IsFrontOfAnswer words files []
-nothing_of_answer words None = tt
-nothing_of_answer words (Some fs) = λ reply a. (text_of reply, refl)
+nothing_of_answer : (words : List (List ℕ)) (base files : Option (List ℕ → Option (List ℕ))) → IsFrontOfAnswer words base files []
+nothing_of_answer words None files = tt
+nothing_of_answer words (Some described) None = tt
+nothing_of_answer words (Some described) (Some fs) = λ reply a. (text_of reply, refl)
 
 -- a run that ended before its answer was known wrote the line alone
 pub cut_off_at_once :
-    (trouble : Type 0) (before now : Option (List ℕ)) (words : List (List ℕ)) (files : Option (List ℕ → Option (List ℕ)))
+    (trouble : Type 0) (before now : Option (List ℕ)) (words : List (List ℕ)) (base files : Option (List ℕ → Option (List ℕ)))
     (fault_line : List ℕ) → AppendsUnless trouble before now fault_line
-    → CutsOff trouble before now fault_line (IsFrontOfAnswer words files)
-cut_off_at_once trouble before now words files fault_line p = ([], inl refl, nothing_of_answer words files, p)
+    → CutsOff trouble before now fault_line (IsFrontOfAnswer words base files)
+cut_off_at_once trouble before now words base files fault_line p = ([], inl refl, nothing_of_answer words base files, p)

@@ -1,7 +1,11 @@
 pub mod Appending
+pub mod Described
 pub mod Faults
 pub mod Legal
 pub mod Opening
 pub mod Pages
+pub mod Printed
 pub mod Replaying
+pub mod Starting
+pub mod Statuses
 pub mod Words

@@ -20,7 +20,8 @@ use Rattle.xact_redo.specs.Sees.{sees}
 use Rattle.standby_core.specs.declared.types.NodeStatus.{NodeStatus}
 use Rattle.standby_core.specs.Standby.{Standby}
 use Rattle.standby_core.specs.View.{node_status}
-use Rattle.scan_model.specs.Scan.{AnswersOpening, AnswersRows, NotAdmitted, Scanned, is_admitted, is_ready, is_there, pages_from}
+use Rattle.table_schema.specs.Description.{Description}
+use Rattle.scan_model.specs.Scan.{AnswersOpening, AnswersRows, NotAdmitted, Answer, Scanned, is_admitted, is_ready, is_there, pages_from}
 use Rattle.scan_model.specs.Tables.{table_with}
 use Rattle.standby_cli.specs.Meaning.{page_in}
 use Rattle.standby_cli.specs.Replays.{bare}
@@ -42,15 +43,15 @@ is_known node test e f =
 
 -- the rows of a table's blocks, by the parts of a node
 same_pages :
-    (table : ℕ) (pool : Pool) (state : XactState) (snapshot : Snapshot) (view : View) (t : TransactionState)
+    (tables : Description) (table : ℕ) (pool : Pool) (state : XactState) (snapshot : Snapshot) (view : View) (t : TransactionState)
     → view_of (content pool) ≡ view → transactions state ≡ t → in_numbers snapshot ≡ take_of state.known.known
-    → page_in (table_with table).columns (in_numbers snapshot) (statuses_in state.log) (content pool) table
-    ≡ (λ block. block_rows (table_with table).columns (sees t) (view table block))
+    → page_in tables (in_numbers snapshot) (statuses_in state.log) (content pool) table
+    ≡ (λ block. block_rows (table_with tables table).columns (sees t) (view table block))
 unfolding transactions
-same_pages table pool state snapshot view t e f g =
-    ap (λ (s : SnapshotData). page_in (table_with table).columns s (statuses_in state.log) (content pool) table) g
-    ∙ ap (λ (x : TransactionState). λ (block : ℕ). block_rows (table_with table).columns (sees x) (view_of (content pool) table block)) f
-    ∙ ap (λ (v : View). λ (block : ℕ). block_rows (table_with table).columns (sees t) (v table block)) e
+same_pages tables table pool state snapshot view t e f g =
+    ap (λ (s : SnapshotData). page_in tables s (statuses_in state.log) (content pool) table) g
+    ∙ ap (λ (x : TransactionState). λ (block : ℕ). block_rows (table_with tables table).columns (sees x) (view_of (content pool) table block)) f
+    ∙ ap (λ (v : View). λ (block : ℕ). block_rows (table_with tables table).columns (sees t) (v table block)) e
 
 -- a block is seen where the pool has it
 there_in : (is : Bool) (lsn : ℕ) (items : List Item) → is_there (if is then seen_page lsn items else bad_block) ≡ true
@@ -72,16 +73,32 @@ pub count_is :
     → (block : ℕ) → is_there (view_of blocks table block) ≡ nat_lt block count
 count_is blocks table count h block = count_at (blocks table block) block count (h block)
 
-pub opened :
+-- a scan of these tables
+abbrev pub scanned : Description → Lsn → ℕ → ℕ → Pool → XactState → Snapshot → Answer
+scanned tables at table count pool state snapshot =
+    Scanned at.0 (table_with tables table) count
+    (pages_from (page_in tables (in_numbers snapshot) (statuses_in state.log) (content pool) table) 0 count)
+
+opened_with :
     (node : Standby) (table count : ℕ) (at : Lsn) (pool : Pool) (state : XactState) (snapshot : Snapshot)
     → view_of (content pool) ≡ node.blocks → transactions state ≡ node.transactions → in_numbers snapshot ≡ take_of state.known.known
     → at ≡ node.at → ((block : ℕ) → is_there (view_of (content pool) table block) ≡ nat_lt block count)
-    → AnswersRows (bare node) table
-    (Scanned at.0 table count (pages_from (page_in (table_with table).columns (in_numbers snapshot) (statuses_in state.log) (content pool) table) 0 count))
-opened node table count at pool state snapshot e f g h n =
+    → AnswersRows (bare node) table (scanned node.tables at table count pool state snapshot)
+opened_with node table count at pool state snapshot e f g h n =
     record {
       blocks = count;
       count = subst (λ (v : View). (block : ℕ) → is_there (v table block) ≡ nat_lt block count) e n;
-      says = ap (λ (a : Lsn). Scanned a.0 table count (pages_from (page_in (table_with table).columns (in_numbers snapshot) (statuses_in state.log) (content pool) table) 0 count)) h
-          ∙ ap (λ (page : ℕ → BlockRows). Scanned node.at.0 table count (pages_from page 0 count)) (same_pages table pool state snapshot node.blocks node.transactions e f g);
+      says = ap (λ (a : Lsn). scanned node.tables a table count pool state snapshot) h
+          ∙ ap (λ (page : ℕ → BlockRows). Scanned node.at.0 (table_with node.tables table) count (pages_from page 0 count))
+          (same_pages node.tables table pool state snapshot node.blocks node.transactions e f g);
     }
+
+pub opened :
+    (node : Standby) (table count : ℕ) (at : Lsn) (tables : Description) (pool : Pool) (state : XactState) (snapshot : Snapshot)
+    → tables ≡ node.tables → view_of (content pool) ≡ node.blocks → transactions state ≡ node.transactions
+    → in_numbers snapshot ≡ take_of state.known.known → at ≡ node.at
+    → ((block : ℕ) → is_there (view_of (content pool) table block) ≡ nat_lt block count)
+    → AnswersRows (bare node) table (scanned tables at table count pool state snapshot)
+opened node table count at tables pool state snapshot d e f g h n =
+    subst (λ (t : Description). AnswersRows (bare node) table (scanned t at table count pool state snapshot)) (sym d)
+    (opened_with node table count at pool state snapshot e f g h n)

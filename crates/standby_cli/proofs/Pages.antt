@@ -4,8 +4,9 @@ use Rattle.std.specs.Prelude.{if◌then◌else◌}
 use Rattle.pg_types.specs.declared.fail.Fail.{Fail}
 use Rattle.outside.specs.Sink.{Appends}
 use Rattle.seq_scan.specs.BlockRows.{BlockEnd, BlockRows, Whole, ToastedAt, BadAt, UnknownAt, NoPage}
-use Rattle.scan_model.specs.Scan.{Answer, BadWords, LogRefused, NoTable, NotAdmitted, Scanned, column_name, end_line, is_whole, line, page_text, place_text, row_line, pages_from, pages_text, status_after, status_at, exit_status}
-use Rattle.standby_cli.specs.Outcome.{AppendsLines, IsLines, IsAnswerStatus, WroteSome}
+use Rattle.table_schema.specs.Description.{DescribedTable}
+use Rattle.scan_model.specs.Scan.{column_name, end_line, is_whole, line, page_text, place_text, row_line, pages_from, pages_text, status_after, status_at}
+use Rattle.standby_cli.specs.Outcome.{AppendsLines, IsLines, WroteSome}
 use Rattle.standby_cli.proofs.Appending.{appends_both, appends_lines, lines_both, no_lines, wrote_after, wrote_of_longer}
 
 -- the pages from this block on
@@ -35,13 +36,13 @@ stops_at page blocks block less part =
     ∙ ap (λ (b : Bool). page block ∷ (if b then pages_from page (block + 1) (blocks - (block + 1)) else [])) part
 
 text_more :
-    (table blocks block : ℕ) (first : BlockRows) (rest : List BlockRows)
+    (table : DescribedTable) (blocks block : ℕ) (first : BlockRows) (rest : List BlockRows)
     → pages_text table blocks block (first ∷ rest)
     ≡ page_text table block (nat_lt (block + 1) blocks) first ++ pages_text table blocks (block + 1) rest
 unfolding pages_text
 text_more table blocks block first rest = refl
 
-text_none : (table blocks block : ℕ) → pages_text table blocks block [] ≡ []
+text_none : (table : DescribedTable) (blocks block : ℕ) → pages_text table blocks block [] ≡ []
 unfolding pages_text
 text_none table blocks block = refl
 
@@ -66,7 +67,7 @@ status_behind_whole first (next ∷ rest) e = refl
 ends_in_line : (x text : List ℕ) → IsLines (x ++ line text)
 ends_in_line x text = inr (x ++ text, sym (append_assoc x text (10 ∷ [])))
 
-behind : (x : List ℕ) (table block : ℕ) (more : Bool) (end : BlockEnd) → IsLines (x ++ end_line table block more end)
+behind : (x : List ℕ) (table : DescribedTable) (block : ℕ) (more : Bool) (end : BlockEnd) → IsLines (x ++ end_line table block more end)
 unfolding end_line
 behind x table block more Whole = ends_in_line x (if more then codes "more 1" else codes "end 1")
 behind x table block more (ToastedAt line_ column) =
@@ -77,18 +78,18 @@ behind x table block more (UnknownAt line_ id) =
     ends_in_line x (codes "damaged 1 " ++ place_text block line_ ++ codes " multi " ++ decimal id)
 behind x table block more NoPage = ends_in_line x (codes "damaged 1 " ++ place_text block 0 ++ codes " page")
 
-page_is_lines : (table block : ℕ) (more : Bool) (page : BlockRows) → IsLines (page_text table block more page)
-page_is_lines table block more page = behind (flat_map row_line page.rows) table block more page.end
+page_is_lines : (table : DescribedTable) (block : ℕ) (more : Bool) (page : BlockRows) → IsLines (page_text table block more page)
+page_is_lines table block more page = behind (flat_map (row_line table.columns) page.rows) table block more page.end
 
 -- where a scan stands before a block: it wrote some text, which with that of the blocks left is the whole
-pub record Written (before now : Option (List ℕ)) (page : ℕ → BlockRows) (table blocks block : ℕ) : Type 0 where
+pub record Written (before now : Option (List ℕ)) (page : ℕ → BlockRows) (table : DescribedTable) (blocks block : ℕ) : Type 0 where
   pub text : List ℕ
   pub lines : IsLines text
   pub appends : Appends before now text
   pub whole : text ++ pages_text table blocks block (left_from page blocks block) ≡ pages_text table blocks 0 (pages_from page 0 blocks)
   pub status : status_after (left_from page blocks block) ≡ status_after (pages_from page 0 blocks)
 
-pub at_first : (before : Option (List ℕ)) (page : ℕ → BlockRows) (table blocks : ℕ) → Appends before before [] → Written before before page table blocks 0
+pub at_first : (before : Option (List ℕ)) (page : ℕ → BlockRows) (table : DescribedTable) (blocks : ℕ) → Appends before before [] → Written before before page table blocks 0
 at_first before page table blocks none =
     let all : blocks - 0 ≡ blocks = omega arith in
     record {
@@ -99,7 +100,7 @@ at_first before page table blocks none =
       status = ap (λ (n : ℕ). status_after (pages_from page 0 n)) all;
     }
 
-text_here : (page : ℕ → BlockRows) (table blocks block : ℕ) (rest : List BlockRows) → left_from page blocks block ≡ page block ∷ rest
+text_here : (page : ℕ → BlockRows) (table : DescribedTable) (blocks block : ℕ) (rest : List BlockRows) → left_from page blocks block ≡ page block ∷ rest
     → pages_text table blocks block (left_from page blocks block)
     ≡ page_text table block (nat_lt (block + 1) blocks) (page block) ++ pages_text table blocks (block + 1) rest
 text_here page table blocks block rest e =
@@ -107,7 +108,7 @@ text_here page table blocks block rest e =
 
 -- the text of a whole block was written
 pub wrote_whole :
-    (before between now : Option (List ℕ)) (page : ℕ → BlockRows) (table blocks block : ℕ) → block < blocks
+    (before between now : Option (List ℕ)) (page : ℕ → BlockRows) (table : DescribedTable) (blocks block : ℕ) → block < blocks
     → is_whole (page block).end ≡ true → Written before between page table blocks block
     → Appends between now (page_text table block (nat_lt (block + 1) blocks) (page block))
     → Written before now page table blocks (block + 1)
@@ -125,7 +126,7 @@ wrote_whole before between now page table blocks block less whole w p =
 
 -- the text of the last block was written
 pub wrote_last :
-    (before between now : Option (List ℕ)) (page : ℕ → BlockRows) (table blocks block : ℕ) → block < blocks
+    (before between now : Option (List ℕ)) (page : ℕ → BlockRows) (table : DescribedTable) (blocks block : ℕ) → block < blocks
     → is_whole (page block).end ≡ false → Written before between page table blocks block
     → Appends between now (page_text table block (nat_lt (block + 1) blocks) (page block))
     → Appends before now (pages_text table blocks 0 (pages_from page 0 blocks)) × (status_at (page block).end ≡ status_after (pages_from page 0 blocks))
@@ -141,7 +142,7 @@ wrote_last before between now page table blocks block less part w p =
 
 -- all blocks were written
 pub wrote_all :
-    (before now : Option (List ℕ)) (page : ℕ → BlockRows) (table blocks block : ℕ) → blocks ≤ block
+    (before now : Option (List ℕ)) (page : ℕ → BlockRows) (table : DescribedTable) (blocks block : ℕ) → blocks ≤ block
     → Written before now page table blocks block
     → Appends before now (pages_text table blocks 0 (pages_from page 0 blocks)) × (0 ≡ status_after (pages_from page 0 blocks))
 wrote_all before now page table blocks block le w =
@@ -153,7 +154,7 @@ wrote_all before now page table blocks block le w =
 
 -- a call that did not succeed wrote some of a block's text
 pub wrote_some :
-    (before between now : Option (List ℕ)) (page : ℕ → BlockRows) (table blocks block : ℕ) (fail : Fail) → block < blocks
+    (before between now : Option (List ℕ)) (page : ℕ → BlockRows) (table : DescribedTable) (blocks block : ℕ) (fail : Fail) → block < blocks
     → Written before between page table blocks block
     → WroteSome between now (page_text table block (nat_lt (block + 1) blocks) (page block)) fail
     → WroteSome before now (pages_text table blocks 0 (pages_from page 0 blocks)) fail
@@ -169,60 +170,9 @@ wrote_some before between now page table blocks block fail less w p =
 
 -- nothing more was written
 pub wrote_front :
-    (before now : Option (List ℕ)) (page : ℕ → BlockRows) (table blocks block : ℕ) → Written before now page table blocks block
+    (before now : Option (List ℕ)) (page : ℕ → BlockRows) (table : DescribedTable) (blocks block : ℕ) → Written before now page table blocks block
     → AppendsLines before now (pages_text table blocks 0 (pages_from page 0 blocks))
 wrote_front before now page table blocks block w =
     let rest = pages_text table blocks block (left_from page blocks block) in
     subst (λ (t : List ℕ). AppendsLines before now t) w.whole
     (appends_lines before now now w.text rest w.lines w.appends (no_lines now rest))
-
--- the status of an answer is no fault's
-replied_at : (end : BlockEnd) → IsAnswerStatus (status_at end)
-replied_at Whole = inl refl
-replied_at (ToastedAt line column) = inr (inl refl)
-replied_at (BadAt line column) = inr (inl refl)
-replied_at (UnknownAt line id) = inr (inr (inr refl))
-replied_at NoPage = inr (inr (inr refl))
-
-replied_after : (pages : List BlockRows) → IsAnswerStatus (status_after pages)
-replied_after [] = inl refl
-replied_after (page ∷ []) = replied_at page.end
-replied_after (page ∷ next ∷ pages) = replied_after (next ∷ pages)
-
-pub replied : (reply : Answer) → IsAnswerStatus (exit_status reply)
-replied BadWords = inr (inr (inl refl))
-replied (LogRefused at what) = inr (inr (inr refl))
-replied NoTable = inr (inl refl)
-replied (NotAdmitted min at awaited state) = inr (inl refl)
-replied (Scanned at table blocks pages) = replied_after pages
-
-pub no_fault : (status n : ℕ) → IsAnswerStatus status → status ≡ n → 5 < n → ⊥
-no_fault status n (inl e) f less = omega arith
-no_fault status n (inr (inl e)) f less = omega arith
-no_fault status n (inr (inr (inl e))) f less = omega arith
-no_fault status n (inr (inr (inr e))) f less = omega arith
-
--- a table without blocks
-pub status_of_none : (at table blocks : ℕ) (page : ℕ → BlockRows) → blocks ≡ 0 → exit_status (Scanned at table blocks (pages_from page 0 blocks)) ≡ 0
-unfolding pages_from
-status_of_none at table blocks page e = ap (λ (n : ℕ). status_after (pages_from page 0 n)) e
-
--- only words that are not understood have the status 2
-two_at : (end : BlockEnd) → status_at end ≡ 2 → ⊥
-two_at Whole e = omega (arith, e)
-two_at (ToastedAt line column) e = omega (arith, e)
-two_at (BadAt line column) e = omega (arith, e)
-two_at (UnknownAt line id) e = omega (arith, e)
-two_at NoPage e = omega (arith, e)
-
-two_after : (pages : List BlockRows) → status_after pages ≡ 2 → ⊥
-two_after [] e = omega (arith, e)
-two_after (page ∷ []) e = two_at page.end e
-two_after (page ∷ next ∷ pages) e = two_after (next ∷ pages) e
-
-pub two_is : (reply : Answer) → exit_status reply ≡ 2 → reply ≡ BadWords
-two_is BadWords e = refl
-two_is (LogRefused at what) e = absurd (omega (arith, e))
-two_is NoTable e = absurd (omega (arith, e))
-two_is (NotAdmitted min at awaited state) e = absurd (omega (arith, e))
-two_is (Scanned at table blocks pages) e = absurd (two_after pages e)

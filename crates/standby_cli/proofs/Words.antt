@@ -1,11 +1,8 @@
 -- Words that are not understood.
-use Rattle.std.proofs.Common.{◌≡◌, ◌⊎◌, ℕ, List, Option, Result, Ok, Err, IfOk, inl, inr, ap, subst, ◌∙◌}
-use Rattle.pg_types.specs.declared.fail.Fail.{Fail}
+use Rattle.std.proofs.Common.{◌≡◌, ◌⊎◌, ℕ, List, Option, inl, inr, ap, subst, ◌∙◌}
 use Rattle.std.specs.Prelude.{codes}
 use Rattle.outside.specs.Sink.{Appends}
 use Rattle.scan_model.specs.Scan.{Answer, BadWords, line, exit_status, text_of}
-use Rattle.standby_cli.specs.declared.reply.Reply.{Reply as Given}
-use Rattle.standby_cli.specs.Meaning.{reply_meaning}
 use Rattle.standby_cli.specs.Outcome.{IsAnswerStatus}
 
 pub told_so :
@@ -19,10 +16,3 @@ pub two_or :
     → (IsAnswerStatus status → status ≡ exit_status reply) → (status ≡ 2) ⊎ ((status ≡ 9) ⊎ (status ≡ 12))
 two_or status reply e (inl replied) is = inl (is replied ∙ ap (λ (r : Answer). exit_status r) e)
 two_or status reply e (inr fault) is = inr fault
-
--- an answer that is none to such words
-pub never_bad :
-    (result : Result Given Fail) (P : Type 0) → IfOk result (λ (reply : Given). reply_meaning reply ≡ BadWords → ⊥)
-    → IfOk result (λ (reply : Given). reply_meaning reply ≡ BadWords → P)
-never_bad (Ok reply) P never = λ bad. absurd (never bad)
-never_bad (Err fail) P never = tt

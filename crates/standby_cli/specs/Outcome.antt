@@ -5,7 +5,7 @@ use Rattle.pg_types.specs.declared.fail.Fail.TheVariants.{Failed, Memory}
 use Rattle.outside.specs.Sink.{Appends, AppendsPrefix}
 use Rattle.scan_model.specs.Scan.{line}
 
--- the exit statuses of faults: the archive's, the sink's, and want of memory
+-- the exit statuses of faults: the archive's or the base folder's, the sink's, and want of memory
 abbrev pub archive_status : ℕ
 archive_status = 7
 
@@ -15,9 +15,14 @@ sink_status = 9
 abbrev pub memory_status : ℕ
 memory_status = 12
 
+-- the status is that of an answer that words and base folder decide: the words are not understood, the description is
+-- refused, or there is none
+abbrev pub IsAtOnce : ℕ → Type 0
+IsAtOnce status = (status ≡ 2) ⊎ ((status ≡ 3) ⊎ (status ≡ 4))
+
 -- the status is that of an answer
 abbrev pub IsAnswerStatus : ℕ → Type 0
-IsAnswerStatus status = (status ≡ 0) ⊎ ((status ≡ 1) ⊎ ((status ≡ 2) ⊎ (status ≡ 5)))
+IsAnswerStatus status = (status ≡ 0) ⊎ ((status ≡ 1) ⊎ ((status ≡ 5) ⊎ IsAtOnce status))
 
 -- the status is that of a fault
 abbrev pub IsFault : ℕ → Type 0

@@ -1,11 +1,11 @@
-//! The commands of the standby, over whatever archive and sink they are given.
+//! The commands of the standby, over whatever archive, base folder and sink they are given.
 #![tactic(auto)]
 
 mod answer;
 mod replay;
 mod reply;
 mod scan;
-mod tables;
+mod schema;
 mod text;
 mod top;
 mod write;

@@ -1,8 +1,7 @@
-ghost use Rattle.std.specs.Prelude.{◌≡◌, ◌<◌, IfOk, Some};
+ghost use Rattle.std.specs.Prelude.{◌≡◌, ◌<◌, IfOk, Some, length};
 ghost use Rattle.standby_core.specs.Standby.{Standby};
 ghost use Rattle.standby_core.specs.View.{standby, node_status};
 ghost use Rattle.scan_model.specs.Scan.{AnswersTable, is_admitted};
-ghost use Rattle.scan_model.specs.Tables.{known};
 ghost use Rattle.standby_cli.specs.Meaning.{reply_meaning};
 ghost use Rattle.standby_cli.specs.Replays.{bare};
 
@@ -24,21 +23,25 @@ fn admits(status: &NodeStatus) -> bool
 
 /// Opens a scan of the table with this number, if scans are admitted.
 pub fn open_scan(alloc: Global, node: Node, table: u16) -> Result<Reply, NoMemory>
-    requires tables { (standby node).known ≡ known }
-    requires described { table < 2 }
+    requires { table < length (standby node).tables.tables }
     ensures { IfOk result (λ reply. AnswersTable (bare (standby node)) (Some table) (reply_meaning reply)) }
 {
     let status = node.status();
     if !admits(&status) {
         return Ok(Reply::NotAdmitted(status));
     }
-    let NodeParts { pool, state } = node.parts();
+    let NodeParts {
+        tables,
+        pool,
+        state,
+    } = node.parts();
     let snapshot = take(alloc, &state.known)?;
     let blocks = pool.blocks(table);
     Ok(Reply::Scan(Scan {
         at: status.at,
         table,
         blocks,
+        tables,
         pool,
         state,
         snapshot,

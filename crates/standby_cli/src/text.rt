@@ -1,18 +1,78 @@
-ghost use Rattle.std.specs.Prelude.{◌≡◌, ◌++◌, Bool, OnOk, IfOk, codes};
-ghost use Rattle.std.specs.List.{flat_map};
+ghost use Rattle.std.specs.Prelude.{◌≡◌, ◌<◌, ◌++◌, OnOk, IfOk, codes, length};
 ghost use Rattle.std.specs.Fmt.{decimal};
 ghost use Rattle.pg_types.specs.Names.{lsn_text};
-ghost use Rattle.seq_scan.specs.Meaning.{end_of, meaning};
-ghost use Rattle.scan_model.specs.Scan.{LogRefused, NotAdmitted, backup_text, cell_text, column_name, end_line, escaped_byte, line, page_text, place_text, refusal_text, row_line, state_text, tabbed, text_of, values_text, what_text};
+ghost use Rattle.seq_scan.specs.Meaning.{end_of};
+ghost use Rattle.scan_model.specs.Scan.{LogRefused, NotAdmitted, SchemaRefused, backup_text, column_name, end_line, key_text, line, place_text, refusal_text, schema_text, state_text, text_of, what_text};
+ghost use Rattle.scan_model.specs.Tables.{table_with};
 
-use crate::tables::column_name;
-use heap_tuple::{Cell, Row};
 use known_assigned::State;
 use pg_types::{Lsn, NoMemory, Place};
-use seq_scan::{BlockEnd, BlockRows};
+use seq_scan::BlockEnd;
 use standby_core::{NodeStatus, Refusal};
 use std::alloc::Global;
+use table_schema::{Key, SchemaFault, Tables};
 use wal_bodies::What;
+
+/// The line of a description that is refused.
+#[tactic(auto, unfolding(scan_model::specs::Scan::text_of))]
+pub fn schema_refused_text(alloc: Global, fault: &SchemaFault) -> Result<Vec<u8>, NoMemory>
+    ensures { IfOk result (λ text. text.items ≡ text_of (SchemaRefused fault.now)) }
+{
+    let mut text = Vec::new(alloc);
+    text.extend_from_slice(b"fault schema ")?;
+    push_schema_fault(alloc, fault, &mut text)?;
+    text.push(b'\n')?;
+    Ok(text)
+}
+
+/// Appends why a description is refused.
+fn push_schema_fault(alloc: Global, fault: &SchemaFault, text: &mut Vec<u8>) -> Result<(), NoMemory>
+    ensures { OnOk result (text.new.items ≡ text.old.items ++ schema_text fault.now) }
+{
+    match fault {
+        SchemaFault::Long => text.extend_from_slice(b"long")?,
+        SchemaFault::Toml => text.extend_from_slice(b"toml")?,
+        SchemaFault::Field { table, key } => push_field(alloc, *table, *key, text)?,
+        SchemaFault::Twice { name } => push_word(b"twice ", name.as_str(), text)?,
+        SchemaFault::Many => text.extend_from_slice(b"many")?,
+        SchemaFault::Memory => text.extend_from_slice(b"memory")?,
+    }
+    Ok(())
+}
+
+/// Appends the number of a table and a key of it.
+fn push_field(alloc: Global, table: u16, key: Key, text: &mut Vec<u8>) -> Result<(), NoMemory>
+    ensures { OnOk result (text.new.items ≡ text.old.items ++ (codes "field " ++ decimal table ++ codes " " ++ key_text key)) }
+{
+    push_numbered(alloc, b"field ", u32::from(table), text)?;
+    push_word(b" ", key_text(key), text)
+}
+
+/// Appends a word behind others.
+fn push_word(words: &[u8], word: &str, text: &mut Vec<u8>) -> Result<(), NoMemory>
+    ensures { OnOk result (text.new.items ≡ text.old.items ++ (words.now ++ word.now)) }
+{
+    text.extend_from_slice(words)?;
+    text.extend_from_slice(word.as_bytes())?;
+    Ok(())
+}
+
+/// A key as a description writes it, and `other` for one that its level does not have.
+fn key_text(key: Key) -> &'static str
+    ensures { result.now ≡ key_text key }
+{
+    match key {
+        Key::Database => "database",
+        Key::Table => "table",
+        Key::Name => "name",
+        Key::Oid => "oid",
+        Key::File => "file",
+        Key::Column => "column",
+        Key::Kind => "type",
+        Key::Missing => "missing",
+        Key::Other => "other",
+    }
+}
 
 /// The line of a record that is refused.
 #[tactic(auto, unfolding(scan_model::specs::Scan::text_of))]
@@ -135,46 +195,30 @@ pub fn head_text(alloc: Global, at: Lsn) -> Result<Vec<u8>, NoMemory>
     Ok(text)
 }
 
-/// The lines of a block: its rows, and how they end.
-pub fn page_text(
-    alloc: Global,
-    table: u16,
-    block: u32,
-    more: bool,
-    page: &BlockRows,
-) -> Result<Vec<u8>, NoMemory>
-    ensures { IfOk result (λ text. text.items ≡ page_text table block more (meaning page.now)) }
-{
-    let mut text = Vec::new(alloc);
-    for row in page.rows.as_slice() {
-        push_row(alloc, row, &mut text)?;
-    }
-    push_end(alloc, table, block, more, page.end, &mut text)?;
-    Ok(text)
-}
-
 /// Appends how a block's rows end.
 #[tactic(auto, unfolding(scan_model::specs::Scan::end_line))]
-fn push_end(
+pub fn push_end(
     alloc: Global,
+    tables: &Tables,
     table: u16,
     block: u32,
     more: bool,
     end: BlockEnd,
     text: &mut Vec<u8>,
 ) -> Result<(), NoMemory>
-    ensures { OnOk result (text.new.items ≡ text.old.items ++ end_line table block more (end_of end)) }
+    requires { table < length tables.now.tables }
+    ensures { OnOk result (text.new.items ≡ text.old.items ++ end_line (table_with tables.now table) block more (end_of end)) }
 {
     match end {
         BlockEnd::Whole if more => text.extend_from_slice(b"more 1")?,
         BlockEnd::Whole => text.extend_from_slice(b"end 1")?,
         BlockEnd::Toasted { line, column } => {
             push_placed(alloc, b"toasted 1 ", Place { block, line }, text)?;
-            push_column(table, column, text)?;
+            push_word(b" ", column_name(tables, table, column), text)?;
         }
         BlockEnd::Bad { line, column } => {
             push_placed(alloc, b"bad row 1 ", Place { block, line }, text)?;
-            push_column(table, column, text)?;
+            push_word(b" ", column_name(tables, table, column), text)?;
         }
         BlockEnd::Unknown { line, id } => {
             push_placed(alloc, b"damaged 1 ", Place { block, line }, text)?;
@@ -189,91 +233,14 @@ fn push_end(
     Ok(())
 }
 
-/// Appends the name of a column.
-fn push_column(table: u16, column: u16, text: &mut Vec<u8>) -> Result<(), NoMemory>
-    ensures { OnOk result (text.new.items ≡ text.old.items ++ (codes " " ++ column_name table column)) }
+/// The name of a column of the table with this number.
+fn column_name(tables: &Tables, table: u16, column: u16) -> &str
+    requires { table < length tables.now.tables }
+    ensures { result.now ≡ column_name (table_with tables.now table) column }
 {
-    text.push(b' ')?;
-    text.extend_from_slice(column_name(table, column).as_bytes())?;
-    Ok(())
-}
-
-/// Appends a row's line.
-#[tactic(auto, unfolding(scan_model::specs::Scan::row_line))]
-fn push_row(alloc: Global, row: &Row, text: &mut Vec<u8>) -> Result<(), NoMemory>
-    ensures { OnOk result (text.new.items ≡ text.old.items ++ row_line row.now) }
-{
-    text.extend_from_slice(b"row ")?;
-    push_values(alloc, row.as_slice(), text)?;
-    text.push(b'\n')?;
-    Ok(())
-}
-
-/// Appends a row's values, with a tab between them.
-fn push_values(alloc: Global, cells: &[Cell], text: &mut Vec<u8>) -> Result<(), NoMemory>
-    ensures { OnOk result (text.new.items ≡ text.old.items ++ values_text cells.now) }
-{
-    let Some((first, rest)) = cells.split_first() else {
-        return Ok(());
-    };
-    push_cell(alloc, first, text)?;
-    push_further(alloc, rest, text)
-}
-
-/// Appends further values, each behind a tab.
-fn push_further(alloc: Global, cells: &[Cell], text: &mut Vec<u8>) -> Result<(), NoMemory>
-    ensures { OnOk result (text.new.items ≡ text.old.items ++ flat_map tabbed cells.now) }
-{
-    for cell in cells {
-        push_tabbed(alloc, cell, text)?;
+    if usize::from(column) < tables.columns(table).len() {
+        tables.column_name(table, column).as_str()
+    } else {
+        ""
     }
-    Ok(())
-}
-
-fn push_tabbed(alloc: Global, cell: &Cell, text: &mut Vec<u8>) -> Result<(), NoMemory>
-    ensures { OnOk result (text.new.items ≡ text.old.items ++ tabbed cell.now) }
-{
-    text.push(b'\t')?;
-    push_cell(alloc, cell, text)
-}
-
-/// Appends a value.
-#[tactic(auto, unfolding(scan_model::specs::Scan::cell_text))]
-fn push_cell(alloc: Global, cell: &Cell, text: &mut Vec<u8>) -> Result<(), NoMemory>
-    ensures { OnOk result (text.new.items ≡ text.old.items ++ cell_text cell.now) }
-{
-    match cell {
-        Cell::Null => text.extend_from_slice(b"\\N")?,
-        Cell::Bool(true) => text.extend_from_slice(b"t")?,
-        Cell::Bool(false) => text.extend_from_slice(b"f")?,
-        Cell::Int(value) => {
-            let number = format!(in alloc; "{value}")?;
-            text.extend_from_slice(number.as_bytes())?;
-        }
-        Cell::Bytes(bytes) => push_escaped(bytes.as_slice(), text)?,
-    }
-    Ok(())
-}
-
-/// Appends a text value, with backslash, tab, newline and return escaped.
-fn push_escaped(note: &[u8], text: &mut Vec<u8>) -> Result<(), NoMemory>
-    ensures { OnOk result (text.new.items ≡ text.old.items ++ flat_map escaped_byte note.now) }
-{
-    for byte in note {
-        push_escaped_byte(*byte, text)?;
-    }
-    Ok(())
-}
-
-fn push_escaped_byte(byte: u8, text: &mut Vec<u8>) -> Result<(), NoMemory>
-    ensures { OnOk result (text.new.items ≡ text.old.items ++ escaped_byte byte) }
-{
-    match byte {
-        b'\\' => text.extend_from_slice(b"\\\\")?,
-        b'\t' => text.extend_from_slice(b"\\t")?,
-        b'\n' => text.extend_from_slice(b"\\n")?,
-        b'\r' => text.extend_from_slice(b"\\r")?,
-        other => text.push(other)?,
-    }
-    Ok(())
 }

@@ -1,4 +1,4 @@
-ghost use Rattle.std.specs.Prelude.{◌≡◌, ◌≤◌, ◌<◌, ◌++◌, ℕ, List, IfOk, codes};
+ghost use Rattle.std.specs.Prelude.{◌≡◌, ◌≤◌, ◌<◌, ◌++◌, ℕ, List, IfOk, codes, length};
 ghost use Rattle.commit_log.specs.Log.{status_of as transaction_status};
 ghost use Rattle.page_store.specs.Content.{content, table_count};
 ghost use Rattle.pg_types.specs.Names.{lsn_text};
@@ -8,18 +8,17 @@ ghost use Rattle.scan_model.specs.Tables.{table_with};
 ghost use Rattle.standby_cli.specs.Meaning.{page_in, reply_meaning, scan_meaning};
 ghost use Rattle.standby_cli.specs.Outcome.{WritesSome};
 ghost use Rattle.outside.specs.Faults.{HasCause};
-ghost use Rattle.seq_scan.specs.Meaning.{end_of, meaning};
+ghost use Rattle.seq_scan.specs.Meaning.{end_of};
 
 use crate::reply::{Reply, Scan};
-use crate::tables::columns_of;
-use crate::text::{head_text, not_admitted_text, page_text, refused_text};
-use heap_tuple::Column;
+use crate::text::{head_text, not_admitted_text, push_end, refused_text, schema_refused_text};
 use outside::Sink;
 use page_store::Pool;
 use pg_types::{Fail, Lsn, NoMemory, Tag};
-use seq_scan::{BlockEnd, BlockRows, read_block};
+use seq_scan::{BlockEnd, print_block};
 use standby_snapshot::Snapshot;
 use std::alloc::Global;
+use table_schema::Tables;
 use xact_redo::XactState;
 
 /// Writes an answer's text, and gives its exit status. For want of memory the text may be cut off after any of its pieces.
@@ -32,6 +31,8 @@ pub fn write_reply<O: Sink>(alloc: Global, reply: Reply, out: &mut O) -> Result<
 {
     match reply {
         Reply::BadWords => write_line(b"fault words\n", 2, out),
+        Reply::SchemaMissing => write_line(b"fault base missing schema.toml\n", 4, out),
+        Reply::SchemaRefused(fault) => write_text(schema_refused_text(alloc, &fault), 3, out),
         Reply::LogRefused { at, what } => write_text(refused_text(alloc, at, what), 5, out),
         Reply::NoTable => write_line(b"no table\n", 1, out),
         Reply::NotAdmitted(status) => write_text(not_admitted_text(alloc, &status), 1, out),
@@ -80,8 +81,8 @@ fn write_scan<O: Sink>(alloc: Global, scan: Scan, out: &mut O) -> Result<u8, Fai
 
 /// Writes the rows of a scan. A table without blocks ends at once.
 fn write_pages<O: Sink>(alloc: Global, scan: Scan, out: &mut O) -> Result<u8, Fail>
-    ensures told { let pages = pages_from (page_in (table_with scan.table).columns (in_numbers scan.snapshot) (transaction_status scan.state.log) (content scan.pool) scan.table) 0 scan.blocks in
-        WritesSome (O.written out.old) (O.written out.new) (scan_text scan.table scan.blocks pages) result }
+    ensures told { let pages = pages_from (page_in scan.tables (in_numbers scan.snapshot) (transaction_status scan.state.log) (content scan.pool) scan.table) 0 scan.blocks in
+        WritesSome (O.written out.old) (O.written out.new) (scan_text (table_with scan.tables scan.table) scan.blocks pages) result }
     ensures status { IfOk result (λ status. status ≡ exit_status (scan_meaning scan)) }
     ensures cause { HasCause (O.fault_count out.old) (O.fault_count out.new) result }
     ensures shortages { O.short_count out.old ≤ O.short_count out.new }
@@ -89,29 +90,18 @@ fn write_pages<O: Sink>(alloc: Global, scan: Scan, out: &mut O) -> Result<u8, Fa
     if scan.blocks == 0 {
         return write_line(b"end 1\n", 0, out);
     }
-    match columns_of(alloc, scan.table) {
-        Err(_) => Err(Fail::Memory),
-        Ok(columns) => {
-            let Scan {
-                table,
-                blocks,
-                mut pool,
-                state,
-                snapshot,
-                ..
-            } = scan;
-            write_blocks(
-                alloc,
-                table,
-                blocks,
-                &mut pool,
-                columns.as_slice(),
-                &snapshot,
-                &state,
-                out,
-            )
-        }
-    }
+    let Scan {
+        table,
+        blocks,
+        tables,
+        mut pool,
+        state,
+        snapshot,
+        ..
+    } = scan;
+    write_blocks(
+        alloc, table, blocks, &tables, &mut pool, &snapshot, &state, out,
+    )
 }
 
 /// Writes the lines of each block, up to the first that does not end with its last line.
@@ -119,50 +109,68 @@ fn write_blocks<O: Sink>(
     alloc: Global,
     table: u16,
     blocks: u32,
+    tables: &Tables,
     pool: &mut Pool,
-    columns: &[Column],
     snapshot: &Snapshot,
     state: &XactState,
     out: &mut O,
 ) -> Result<u8, Fail>
-    requires { table < table_count pool.old }
-    ensures told { let page = page_in columns.now (in_numbers snapshot.now) (transaction_status state.now.log) (content pool.old) table in
-        WritesSome (O.written out.old) (O.written out.new) (pages_text table blocks 0 (pages_from page 0 blocks)) result }
-    ensures status { let page = page_in columns.now (in_numbers snapshot.now) (transaction_status state.now.log) (content pool.old) table in
+    requires pooled { table < table_count pool.old }
+    requires described { table < length tables.now.tables }
+    ensures told { let page = page_in tables.now (in_numbers snapshot.now) (transaction_status state.now.log) (content pool.old) table in
+        WritesSome (O.written out.old) (O.written out.new) (pages_text (table_with tables.now table) blocks 0 (pages_from page 0 blocks)) result }
+    ensures status { let page = page_in tables.now (in_numbers snapshot.now) (transaction_status state.now.log) (content pool.old) table in
         IfOk result (λ status. status ≡ status_after (pages_from page 0 blocks)) }
     ensures cause { HasCause (O.fault_count out.old) (O.fault_count out.new) result }
     ensures shortages { O.short_count out.old ≤ O.short_count out.new }
 {
+    let mut text = Vec::new(alloc);
     for block in 0..blocks {
-        let page = match read_block(alloc, pool, Tag { table, block }, columns, snapshot, state) {
+        let tag = Tag { table, block };
+        let more = block + 1 < blocks;
+        let end = match print_page(alloc, tables, pool, tag, more, snapshot, state, &mut text) {
             Err(_) => return Err(Fail::Memory),
-            Ok(page) => page,
+            Ok(end) => end,
         };
-        match write_page(alloc, table, block, block + 1 < blocks, &page, out) {
+        match write_line(text.as_slice(), 0, out) {
             Err(fail) => return Err(fail),
             Ok(_) => {}
         }
-        if !is_whole(page.end) {
-            return Ok(status_at(page.end));
+        if !is_whole(end) {
+            return Ok(status_at(end));
         }
     }
     Ok(0)
 }
 
-/// Writes the lines of a block.
-fn write_page<O: Sink>(
+/// Puts the lines of a block of a described table in place of what stood in `text`, and answers how its
+/// rows end. It changes nothing of the pool's content.
+fn print_page(
     alloc: Global,
-    table: u16,
-    block: u32,
+    tables: &Tables,
+    pool: &mut Pool,
+    tag: Tag,
     more: bool,
-    page: &BlockRows,
-    out: &mut O,
-) -> Result<u8, Fail>
-    ensures told { WritesSome (O.written out.old) (O.written out.new) (page_text table block more (meaning page.now)) result }
-    ensures cause { HasCause (O.fault_count out.old) (O.fault_count out.new) result }
-    ensures shortages { O.short_count out.old ≤ O.short_count out.new }
+    snapshot: &Snapshot,
+    state: &XactState,
+    text: &mut Vec<u8>,
+) -> Result<BlockEnd, NoMemory>
+    requires pooled { tag.table < table_count pool.old }
+    requires described { tag.table < length tables.now.tables }
+    ensures text { IfOk result (λ end. text.new.items ≡ page_text (table_with tables.now tag.table) tag.block more (page_in tables.now (in_numbers snapshot.now) (transaction_status state.now.log) (content pool.old) tag.table tag.block)) }
+    ensures end { IfOk result (λ end. end_of end ≡ (page_in tables.now (in_numbers snapshot.now) (transaction_status state.now.log) (content pool.old) tag.table tag.block).end) }
+    ensures content { content pool.new ≡ content pool.old }
+    ensures tables { table_count pool.new ≡ table_count pool.old }
 {
-    write_text(page_text(alloc, table, block, more, page), 0, out)
+    text.clear();
+    let columns = tables.columns(tag.table);
+    match print_block(pool, tag, columns, snapshot, state, b"row ", text) {
+        Err(no_memory) => Err(no_memory),
+        Ok(end) => {
+            push_end(alloc, tables, tag.table, tag.block, more, end, text)?;
+            Ok(end)
+        }
+    }
 }
 
 /// Whether a block's rows end with its last line.

@@ -4,4 +4,4 @@ use Rattle.bench_redo.proofs.replay.replay_all.Given as goal
 
 -- the pool keeps its tables
 abbrev pub invariant-loop : goal.invariant-loop
-invariant-loop g l = table_count l.pool ≡ table_count g.pool.old
+invariant-loop g l = table_count l.pool ≡ table_count l.fn.pool

@@ -7,9 +7,9 @@ use Rattle.standby_cli.proofs.replay.replay_log.Goals as goal
 
 pub records-init : goal.records-init
 records-init g c =
-    let first = started (standby c.in-Ok.node) c.in-Ok.ensures in
+    let first = started c.args.tables (standby c.in-Ok.node) c.in-Ok.ensures in
     record {
-      stands = stands_first (archived_bytes (g.A.Archive.files c.args.archive.now) segment_size) (standby c.in-Ok.node) c.in-Ok.ensures;
+      stands = stands_first c.args.tables (archived_bytes (g.A.Archive.files c.args.archive.now) segment_size) (standby c.in-Ok.node) c.in-Ok.ensures;
       tables = first.0;
       segsize = first.1;
       bound = first.2;
@@ -30,8 +30,8 @@ records-preserved g c =
     let later : archived_bytes (g.A.Archive.files c.replay_one.new.archive) segment_size ≡ archived_bytes (g.A.Archive.files c.records.archive) segment_size =
     subst (λ (size : ℕ). archived_bytes (g.A.Archive.files c.replay_one.new.archive) size ≡ archived_bytes (g.A.Archive.files c.records.archive) size) inv.segsize is.told in
     record {
-      stands = led_on _ _ old new _ _ _ bytes inv.stands answer;
-      tables = is.known ∙ inv.tables;
+      stands = led_on c.args.tables _ _ old new _ _ bytes inv.stands answer;
+      tables = is.tables ∙ inv.tables;
       segsize = is.segsize ∙ inv.segsize;
       bound = onward.1;
       told = later ∙ inv.told;
@@ -42,7 +42,7 @@ pub returns-in-Ok-AtEnd-clause-replayed : goal.returns-in-Ok-AtEnd-clause-replay
 returns-in-Ok-AtEnd-clause-replayed g c =
     let inv = c.records.invariant in
     let old = standby c.records.node in
-    ended_in _ _ c.records.node c.replay_one.new.self _ c.in-Ok-AtEnd.why
+    ended_in c.args.tables _ _ c.records.node c.replay_one.new.self _ c.in-Ok-AtEnd.why
     (ap (λ (size : ℕ). archived_bytes (g.A.Archive.files c.records.archive) size) inv.segsize ∙ inv.told) inv.stands
     (rw c.in-Ok-AtEnd.field-0-is at c.in-Ok-AtEnd.ensures.answer)
     (rw c.in-Ok-AtEnd.field-0-is at c.in-Ok-AtEnd.ensures.stays)
@@ -51,6 +51,6 @@ pub returns-in-Ok-Refused-clause-replayed : goal.returns-in-Ok-Refused-clause-re
 returns-in-Ok-Refused-clause-replayed g c =
     let inv = c.records.invariant in
     let old = standby c.records.node in
-    refused_in _ _ old (standby c.replay_one.new.self) c.in-Ok-Refused.lsn c.in-Ok-Refused.what
+    refused_in c.args.tables _ _ old (standby c.replay_one.new.self) c.in-Ok-Refused.lsn c.in-Ok-Refused.what
     (ap (λ (size : ℕ). archived_bytes (g.A.Archive.files c.records.archive) size) inv.segsize ∙ inv.told) inv.stands
     (rw c.in-Ok-Refused.field-0-is at c.in-Ok-Refused.ensures.answer)

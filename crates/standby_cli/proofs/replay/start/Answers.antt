@@ -1,12 +1,10 @@
-use Rattle.std.proofs.Common.{ap, ◌∙◌, List}
+use Rattle.std.proofs.Common.{ap, ◌∙◌}
 use Rattle.std.proofs.lemmas.Result.{IfOk-weaker}
 use Rattle.pg_types.specs.SegmentSizes.{sixteen_mebibytes}
-use Rattle.pg_types.specs.declared.names.Locator.{Locator}
 use Rattle.page_store.specs.Content.{content}
-use Rattle.page_store.specs.Seen.{View, view_of}
+use Rattle.page_store.specs.Seen.{View}
 use Rattle.standby_core.specs.Standby.{at_origin}
 use Rattle.scan_model.specs.Run.{origin}
-use Rattle.scan_model.specs.Tables.{database, known}
 use Rattle.standby_cli.proofs.Replaying.{no_blocks}
 use Rattle.standby_cli.proofs.replay.start.Goals as goal
 
@@ -15,9 +13,7 @@ at_origin-requires-clause-segment_size c = sixteen_mebibytes
 
 pub returns : goal.returns
 returns c =
-    let files = c.as_slice.ensures.value ∙ c.in_ok-known.ensures in
     let none = no_blocks (content c.in_ok-pool.pool) c.in_ok-pool.ensures.blocks in
     IfOk-weaker c.at_origin.result _ _
-    (λ node e. e ∙ ap (λ (k : List Locator). at_origin database k origin (view_of (content c.in_ok-pool.pool))) files
-    ∙ ap (λ (view : View). at_origin database known origin view) none)
+    (λ node e. e ∙ ap (λ (view : View). at_origin c.args.tables origin view) none)
     c.at_origin.ensures

@@ -1,6 +1,6 @@
 use Rattle.std.proofs.Common.{◌⊎◌, ◌∙◌, ℕ, inl, subst, sym, lit<}
 use Rattle.standby_cli.specs.Outcome.{IsAnswerStatus}
-use Rattle.standby_cli.proofs.Pages.{no_fault, replied}
+use Rattle.standby_cli.proofs.Statuses.{no_fault, replied}
 use Rattle.std.specs.Prelude.{codes}
 use Rattle.outside.specs.Faults.{Rose}
 use Rattle.standby_cli.specs.Meaning.{reply_meaning}

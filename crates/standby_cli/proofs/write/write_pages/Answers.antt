@@ -5,17 +5,13 @@ use Rattle.page_store.specs.Content.{content}
 use Rattle.standby_snapshot.specs.Snapshot.{in_numbers}
 use Rattle.scan_model.specs.Tables.{table_with}
 use Rattle.standby_cli.specs.Meaning.{page_in}
-use Rattle.standby_cli.proofs.Appending.{no_lines}
-use Rattle.standby_cli.proofs.Pages.{status_of_none}
+use Rattle.standby_cli.proofs.Statuses.{status_of_none}
 use Rattle.standby_cli.proofs.write.write_pages.Goals as goal
 
 pub returns-then-scan-eq0-clause-status : goal.returns-then-scan-eq0-clause-status
 returns-then-scan-eq0-clause-status g c =
     let scan = c.args.scan in
     IfOk-weaker c.write_line.result _ _
-    (λ status e. e ∙ sym (status_of_none scan.at.0 scan.table scan.blocks
-    (page_in (table_with scan.table).columns (in_numbers scan.snapshot) (transaction_status scan.state.log) (content scan.pool) scan.table) c.if-scan-eq0.true))
+    (λ status e. e ∙ sym (status_of_none scan.at.0 (table_with scan.tables scan.table) scan.blocks
+    (page_in scan.tables (in_numbers scan.snapshot) (transaction_status scan.state.log) (content scan.pool) scan.table) c.if-scan-eq0.true))
     c.write_line.ensures.status
-
-pub returns-in-Err-clause-told : goal.returns-in-Err-clause-told
-returns-in-Err-clause-told g c = no_lines (g.O.Sink.written c.args.out.now) _

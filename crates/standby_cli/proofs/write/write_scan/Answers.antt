@@ -15,7 +15,7 @@ unfolding text_of
 returns-in-Err-clause-told g c =
     let scan = c.args.scan in
     wrote_of_longer (g.O.Sink.written c.args.out.now) (g.O.Sink.written c.write_text.new.out) (line (codes "scan 1 at " ++ lsn_text scan.at.0))
-    (scan_text scan.table scan.blocks (pages_from (page_in (table_with scan.table).columns (in_numbers scan.snapshot) (transaction_status scan.state.log) (content scan.pool) scan.table) 0 scan.blocks))
+    (scan_text (table_with scan.tables scan.table) scan.blocks (pages_from (page_in scan.tables (in_numbers scan.snapshot) (transaction_status scan.state.log) (content scan.pool) scan.table) 0 scan.blocks))
     c.in-Err.fail
     (c.in-Err.ensures.told (line (codes "scan 1 at " ++ lsn_text scan.at.0)) c.head_text.ensures)
 
@@ -25,5 +25,5 @@ returns-in-Ok-clause-told g c =
     let scan = c.args.scan in
     writes_after (g.O.Sink.written c.args.out.now) (g.O.Sink.written c.write_text.new.out) (g.O.Sink.written c.write_pages.new.out)
     (line (codes "scan 1 at " ++ lsn_text scan.at.0))
-    (scan_text scan.table scan.blocks (pages_from (page_in (table_with scan.table).columns (in_numbers scan.snapshot) (transaction_status scan.state.log) (content scan.pool) scan.table) 0 scan.blocks))
+    (scan_text (table_with scan.tables scan.table) scan.blocks (pages_from (page_in scan.tables (in_numbers scan.snapshot) (transaction_status scan.state.log) (content scan.pool) scan.table) 0 scan.blocks))
     c.write_pages.result (line_is (codes "scan 1 at " ++ lsn_text scan.at.0)) (c.in-Ok.ensures.told (line (codes "scan 1 at " ++ lsn_text scan.at.0)) c.head_text.ensures) c.write_pages.ensures.told
