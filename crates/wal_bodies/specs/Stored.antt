@@ -5,7 +5,7 @@ use Rattle.wal_bodies.specs.declared.types.BodyFault.{BodyFault}
 use Rattle.wal_bodies.specs.declared.types.NewTuple.{NewTuple}
 use Rattle.wal_bodies.specs.declared.types.RecBlock.{RecBlock}
 use Rattle.wal_bodies.specs.Tuples.{listed_from}
-use Rattle.wal_bodies.specs.Typed.{blocks_from}
+use Rattle.wal_bodies.specs.Typed.{blocks_from, blocks_of}
 
 -- what is there, as a list
 abbrev pub optional : {A : Type 0} → Option A → List A
@@ -40,3 +40,8 @@ abbrev pub IsNextBlock : Record → ℕ → Option RecBlock → Type 0
 IsNextBlock rec least None = blocks_from rec least (33 - least) ≡ []
 IsNextBlock rec least (Some block) =
     (block.id < 33) × (blocks_from rec least (33 - least) ≡ block ∷ blocks_from rec (block.id + 1) (33 - (block.id + 1)))
+
+-- the blocks whose id is below a number, with these tuples, unless they are refused
+abbrev pub with_blocks : ℕ → Record → Result (List NewTuple) BodyFault → Result (List RecBlock) BodyFault
+with_blocks ids rec (Ok tuples) = Ok (blocks_of ids tuples rec)
+with_blocks ids rec (Err fault) = Err fault

@@ -2,12 +2,12 @@ ghost use Rattle.std.specs.Prelude.{◌≡◌, ◌++◌, ◌≤◌, option_map};
 ghost use Rattle.std.specs.Iterator.{YieldsFirst, item_count};
 ghost use Rattle.wal_record.specs.Views.{block_of_view, image_of_view};
 ghost use Rattle.wal_bodies.specs.Fields.{main_block};
-ghost use Rattle.wal_bodies.specs.Typed.{ids_of, image_of, block_with, listed_block, blocks_from, blocks_of};
+ghost use Rattle.wal_bodies.specs.Typed.{image_of, block_with, blocks_of};
 ghost use Rattle.wal_bodies.specs.Stored.{optional, IsNextBlock};
 
 use crate::fields::main_block;
 use crate::new_tuples::NewTuples;
-use crate::types::{RecBlock, RecImage, RecKind};
+use crate::types::{RecBlock, RecImage};
 use record_fields::RecBytes;
 use std::marker::Model;
 use wal_record::{BlockView, ImageView, RecordView};
@@ -37,7 +37,7 @@ impl<'a> Model for RecBlocks<'a> {
 }
 
 impl<'a> RecBlocks<'a> {
-    ghost use Rattle.std.specs.Prelude.{[]};
+    ghost use Rattle.std.specs.Prelude.{[], ◌∷◌};
 
     /// At most two blocks.
     pub fn new(first: Option<RecBlock<'a>>, second: Option<RecBlock<'a>>) -> RecBlocks<'a>
@@ -57,15 +57,24 @@ impl<'a> RecBlocks<'a> {
         RecBlocks::new(None, None)
     }
 
-    /// This block, and all those behind block 0, each of which is looked up when it comes.
-    fn of_images(first: Option<RecBlock<'a>>, view: &RecordView<'a>) -> RecBlocks<'a>
-        ensures { result ≡ optional first.entry ++ blocks_from view.now 1 32 }
+    /// One block.
+    #[tactic(auto, unfolding(crate::specs::Typed::blocks_from))]
+    pub(crate) fn one(block: RecBlock<'a>) -> RecBlocks<'a>
+        ensures { result ≡ block.entry ∷ [] }
+    {
+        RecBlocks::new(Some(block), None)
+    }
+
+    /// All blocks of a record of images, each of which is looked up when it comes.
+    #[tactic(auto, unfolding(crate::specs::Typed::blocks_of, crate::specs::Typed::blocks_from))]
+    pub(crate) fn of_images(view: &RecordView<'a>) -> RecBlocks<'a>
+        ensures { result ≡ blocks_of 33 [] view.now }
     {
         RecBlocks {
-            first,
+            first: None,
             second: None,
             view: Some(view.again()),
-            id: 1,
+            id: 0,
         }
     }
 
@@ -160,7 +169,7 @@ impl<'a> RecImage<'a> {
 }
 
 /// A block with these tuples.
-fn block_with<'a>(id: u8, block: BlockView<'a>, tuples: NewTuples<'a>) -> RecBlock<'a>
+pub(crate) fn block_with<'a>(id: u8, block: BlockView<'a>, tuples: NewTuples<'a>) -> RecBlock<'a>
     ensures { result ≡ block_with tuples.entry (block_of_view id block.entry) }
 {
     RecBlock {
@@ -184,40 +193,5 @@ fn image_of<'a>(image: Option<ImageView<'a>>) -> Option<RecImage<'a>>
             hole_at: image.hole_at,
             bytes: RecBytes::new(image.bytes),
         }),
-    }
-}
-
-/// The block with this id and these tuples, if the record has it.
-fn looked_up<'a>(id: u8, tuples: NewTuples<'a>, view: &RecordView<'a>) -> Option<RecBlock<'a>>
-    ensures { optional result ≡ listed_block tuples.entry (main_block id view.now) }
-{
-    match main_block(view, id) {
-        Some(block) => Some(block_with(id, block, tuples)),
-        None => None,
-    }
-}
-
-/// The blocks that redo of this kind changes; the tuples are those of block 0.
-#[tactic(auto, unfolding(crate::specs::Typed::ids_of, crate::specs::Typed::blocks_of, crate::specs::Typed::blocks_from))]
-pub(crate) fn blocks_of<'a>(
-    kind: &RecKind<'a>,
-    tuples: NewTuples<'a>,
-    view: &RecordView<'a>,
-) -> RecBlocks<'a>
-    ensures { result ≡ blocks_of (ids_of kind.now) tuples.entry view.now }
-{
-    match kind {
-        RecKind::Images => RecBlocks::of_images(looked_up(0, tuples, view), view),
-        RecKind::Update { .. } => RecBlocks::new(
-            looked_up(0, tuples, view),
-            looked_up(1, NewTuples::none(), view),
-        ),
-        RecKind::Insert { .. }
-        | RecKind::Delete { .. }
-        | RecKind::Confirm { .. }
-        | RecKind::Lock { .. }
-        | RecKind::MultiInsert { .. }
-        | RecKind::LockUpdated { .. } => RecBlocks::new(looked_up(0, tuples, view), None),
-        _ => RecBlocks::none(),
     }
 }

@@ -1,85 +1,105 @@
-ghost use Rattle.std.specs.Prelude.{◌≡◌, option_map};
+ghost use Rattle.std.specs.Prelude.{◌≡◌, [], is_some, option_map};
 ghost use Rattle.wal_record.specs.Views.{image_of_view};
-ghost use Rattle.wal_bodies.specs.Fields.{number_from, result_map};
+ghost use Rattle.wal_bodies.specs.Fields.{main_block, number_from, result_map};
 ghost use Rattle.wal_bodies.specs.Tuples.{inserted, length_from, replaced, updated, listed_from, is_applied, update_tuples, no_tuples, borrows, tuples_of, insert_tuples, multi_tuples};
+ghost use Rattle.wal_bodies.specs.Typed.{ids_of, listed_block};
+ghost use Rattle.wal_bodies.specs.Stored.{optional, with_blocks};
 
+use crate::blocks::{RecBlocks, block_with};
 use crate::fields::main_block;
 use crate::new_tuples::{NewTuples, listed_at, tuple_with};
-use crate::types::{BodyFault, RecKind};
+use crate::types::{BodyFault, RecBlock, RecKind};
 use pg_types::u16_at;
 use wal_record::{BlockView, RecordView};
 
-/// The tuples that a record of this kind puts into its block 0, which a kind of the heap has to have.
-#[tactic(auto, unfolding(crate::specs::Tuples::tuples_of))]
-pub(crate) fn tuples_of<'a>(
+/// The blocks that redo of this kind changes, with the tuples that the record puts into its block 0, which a
+/// kind of the heap has to have. Each block is looked up once.
+#[tactic(auto, unfolding(crate::specs::Tuples::tuples_of, crate::specs::Typed::ids_of, crate::specs::Typed::blocks_of))]
+pub(crate) fn blocks_of<'a>(
     kind: &RecKind<'a>,
     view: &RecordView<'a>,
-) -> Result<NewTuples<'a>, BodyFault>
-    ensures { result ≡ tuples_of kind.now view.now }
+) -> Result<RecBlocks<'a>, BodyFault>
+    ensures { result ≡ with_blocks (ids_of kind.now) view.now (tuples_of kind.now view.now) }
 {
     match kind {
-        RecKind::Insert { .. } => insert_tuples(view),
-        RecKind::Update { flags, .. } => update_tuples(*flags, view),
-        RecKind::MultiInsert { lines, .. } => multi_tuples(lines.len(), view),
+        RecKind::Insert { .. } => insert_blocks(view),
+        RecKind::Update { flags, .. } => update_blocks(*flags, view),
+        RecKind::MultiInsert { lines, .. } => multi_blocks(lines.len(), view),
         RecKind::Delete { .. }
         | RecKind::Confirm { .. }
         | RecKind::Lock { .. }
-        | RecKind::LockUpdated { .. } => no_tuples(view),
-        _ => Ok(NewTuples::none()),
+        | RecKind::LockUpdated { .. } => one_block(view),
+        RecKind::Images => Ok(RecBlocks::of_images(view)),
+        _ => Ok(RecBlocks::none()),
     }
 }
 
-#[tactic(auto, unfolding(crate::specs::Tuples::insert_tuples))]
-fn insert_tuples<'a>(view: &RecordView<'a>) -> Result<NewTuples<'a>, BodyFault>
-    ensures { result ≡ insert_tuples view.now }
+#[tactic(auto, unfolding(crate::specs::Tuples::insert_tuples, crate::specs::Typed::blocks_of, crate::specs::Typed::blocks_from))]
+fn insert_blocks<'a>(view: &RecordView<'a>) -> Result<RecBlocks<'a>, BodyFault>
+    ensures { result ≡ with_blocks 1 view.now (insert_tuples view.now) }
 {
     let Some(block) = main_block(view, 0) else {
         return Err(BodyFault::Length);
     };
     if is_applied(&block) {
-        return Ok(NewTuples::none());
+        return Ok(RecBlocks::one(block_with(0, block, NewTuples::none())));
     }
-    inserted(block.payload)
+    let tuples = inserted(block.payload)?;
+    Ok(RecBlocks::one(block_with(0, block, tuples)))
 }
 
-#[tactic(auto, unfolding(crate::specs::Tuples::update_tuples))]
-fn update_tuples<'a>(flags: u8, view: &RecordView<'a>) -> Result<NewTuples<'a>, BodyFault>
-    ensures { result ≡ update_tuples flags view.now }
+#[tactic(auto, unfolding(crate::specs::Tuples::update_tuples, crate::specs::Typed::blocks_of, crate::specs::Typed::blocks_from))]
+fn update_blocks<'a>(flags: u8, view: &RecordView<'a>) -> Result<RecBlocks<'a>, BodyFault>
+    ensures { result ≡ with_blocks 2 view.now (update_tuples flags view.now) }
 {
     let Some(block) = main_block(view, 0) else {
         return Err(BodyFault::Length);
     };
-    if borrows(flags) && main_block(view, 1).is_some() {
+    let second = old_block(view);
+    if borrows(flags) && second.is_some() {
         return Err(BodyFault::Length);
     }
     if is_applied(&block) {
-        return Ok(NewTuples::none());
+        let first = block_with(0, block, NewTuples::none());
+        return Ok(RecBlocks::new(Some(first), second));
     }
-    updated(flags, block.payload)
+    let tuples = updated(flags, block.payload)?;
+    Ok(RecBlocks::new(Some(block_with(0, block, tuples)), second))
 }
 
-#[tactic(auto, unfolding(crate::specs::Tuples::multi_tuples))]
-fn multi_tuples<'a>(count: usize, view: &RecordView<'a>) -> Result<NewTuples<'a>, BodyFault>
-    ensures { result ≡ multi_tuples count view.now }
+/// Block 1, if the record has it.
+fn old_block<'a>(view: &RecordView<'a>) -> Option<RecBlock<'a>>
+    ensures block { optional result ≡ listed_block [] (main_block 1 view.now) }
+    ensures there { is_some result ≡ is_some (main_block 1 view.now) }
+{
+    match main_block(view, 1) {
+        Some(block) => Some(block_with(1, block, NewTuples::none())),
+        None => None,
+    }
+}
+
+#[tactic(auto, unfolding(crate::specs::Tuples::multi_tuples, crate::specs::Typed::blocks_of, crate::specs::Typed::blocks_from))]
+fn multi_blocks<'a>(count: usize, view: &RecordView<'a>) -> Result<RecBlocks<'a>, BodyFault>
+    ensures { result ≡ with_blocks 1 view.now (multi_tuples count view.now) }
 {
     let Some(block) = main_block(view, 0) else {
         return Err(BodyFault::Length);
     };
     if is_applied(&block) {
-        return Ok(NewTuples::none());
+        return Ok(RecBlocks::one(block_with(0, block, NewTuples::none())));
     }
-    check_listed(count, block.payload)?;
-    Ok(NewTuples::listed(block.payload, count))
+    let tuples = listed(count, block.payload)?;
+    Ok(RecBlocks::one(block_with(0, block, tuples)))
 }
 
-/// No tuples, in a record that has to have block 0.
-#[tactic(auto, unfolding(crate::specs::Tuples::no_tuples))]
-fn no_tuples<'a>(view: &RecordView<'a>) -> Result<NewTuples<'a>, BodyFault>
-    ensures { result ≡ no_tuples view.now }
+/// Block 0 without tuples, which the record has to have.
+#[tactic(auto, unfolding(crate::specs::Tuples::no_tuples, crate::specs::Typed::blocks_of, crate::specs::Typed::blocks_from))]
+fn one_block<'a>(view: &RecordView<'a>) -> Result<RecBlocks<'a>, BodyFault>
+    ensures { result ≡ with_blocks 1 view.now (no_tuples view.now) }
 {
     match main_block(view, 0) {
         None => Err(BodyFault::Length),
-        Some(_) => Ok(NewTuples::none()),
+        Some(block) => Ok(RecBlocks::one(block_with(0, block, NewTuples::none()))),
     }
 }
 
@@ -152,6 +172,14 @@ fn replaced<'a>(prefix: u16, suffix: u16, bytes: &'a [u8]) -> Result<NewTuples<'
     let (_, rest) = bytes.split_at(5);
     let tuple = tuple_with(bytes, 0, prefix, suffix, rest);
     Ok(NewTuples::one(tuple))
+}
+
+/// As many tuples of a multi-insert, each of which is there.
+fn listed<'a>(count: usize, bytes: &'a [u8]) -> Result<NewTuples<'a>, BodyFault>
+    ensures { result ≡ listed_from bytes.now 0 count }
+{
+    check_listed(count, bytes)?;
+    Ok(NewTuples::listed(bytes, count))
 }
 
 /// Whether as many tuples of a multi-insert are there.

@@ -4,10 +4,10 @@ ghost use Rattle.wal_bodies.specs.Kinds.{kind_of};
 ghost use Rattle.wal_bodies.specs.Xids.{AreXidsShort, IsShort, record_xids};
 ghost use Rattle.wal_bodies.specs.Typed.{is_last, ended_in, names_last, read_as, typed};
 
-use crate::blocks::{RecBlocks, blocks_of};
+use crate::blocks::RecBlocks;
 use crate::heap::{heap_kind, heap2_kind};
 use crate::running::{database_kind, later, standby_kind};
-use crate::tuples::tuples_of;
+use crate::tuples::blocks_of;
 use crate::types::{BodyFault, Rec, RecKind, What};
 use crate::xact::xact_kind;
 use crate::xlog::xlog_kind;
@@ -57,11 +57,10 @@ fn read_as<'a>(
 {
     let main = view.main();
     let kind = kind_of(view, main, database, known)?;
-    let tuples = tuples_of(&kind, view)?;
+    let blocks = blocks_of(&kind, view)?;
     if names_last(view.head(), &kind) {
         return Err(BodyFault::Unsupported(What::Epoch));
     }
-    let blocks = blocks_of(&kind, tuples, view);
     Ok((kind, blocks))
 }
 
