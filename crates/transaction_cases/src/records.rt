@@ -57,40 +57,42 @@ fn read(data: &[u8], is_overflowed: bool, state: &mut XactState) -> Result<(), W
 
 /// The record of running transactions of which some subtransactions are left out. `body` refuses one yet.
 fn overflowed<'a>(rec: Rec<'a>) -> Rec<'a>
-    requires { AreXidsShort rec.entry }
+    requires { AreXidsShort rec }
     ensures { AreXidsShort result }
 {
-    match rec.kind {
+    let Rec {
+        head,
+        start,
+        end,
+        kind,
+        blocks,
+    } = rec;
+    let kind = match kind {
         RecKind::Running {
             tops,
             subs,
-            overflow: _,
             next,
             oldest,
             latest,
             xids,
-        } => Rec {
-            head: rec.head,
-            start: rec.start,
-            end: rec.end,
-            kind: RecKind::Running {
-                tops,
-                subs,
-                overflow: true,
-                next,
-                oldest,
-                latest,
-                xids,
-            },
-            blocks: rec.blocks,
+            ..
+        } => RecKind::Running {
+            tops,
+            subs,
+            overflow: true,
+            next,
+            oldest,
+            latest,
+            xids,
         },
-        kind => Rec {
-            head: rec.head,
-            start: rec.start,
-            end: rec.end,
-            kind,
-            blocks: rec.blocks,
-        },
+        other => other,
+    };
+    Rec {
+        head,
+        start,
+        end,
+        kind,
+        blocks,
     }
 }
 
