@@ -163,6 +163,9 @@ fn show_parts(answer: &mut Answer, parts: NodeParts, xid: Xid) {
         Status::Aborted => " aborted",
         Status::Sub => " subtransaction",
     });
-    answer.field(", latest completed ", parts.state.known.latest_completed().0);
+    answer.field(
+        ", latest completed ",
+        parts.state.known.latest_completed().0,
+    );
     answer.say(",");
 }

@@ -41,31 +41,79 @@ pub fn cases(rt: &HostRuntime) -> io::Result<()> {
     }
     let mut base = base_of(rt, "other_file")?;
     report(rt, "another name", &["scan", "t"], &mut archive, &mut base)?;
-    report(rt, "another file", &["scan", "accounts"], &mut archive, &mut base)?;
+    report(
+        rt,
+        "another file",
+        &["scan", "accounts"],
+        &mut archive,
+        &mut base,
+    )?;
     let mut longest = lengthened(rt, 1_048_576)?;
     report(rt, "longest", &["scan", "t"], &mut archive, &mut longest)?;
     let mut longer = lengthened(rt, 1_048_577)?;
     report(rt, "too long", &["scan", "t"], &mut archive, &mut longer)?;
     let mut base = base_of(rt, "twice")?;
     let mut refused = archive_of(rt, "compressed")?;
-    report(rt, "a refused log too", &["scan", "t"], &mut refused, &mut base)
+    report(
+        rt,
+        "a refused log too",
+        &["scan", "t"],
+        &mut refused,
+        &mut base,
+    )
 }
 
 /// A base folder without a description, and one of which the first call fails, or only the second.
 pub fn failures(rt: &HostRuntime) -> io::Result<()> {
     let mut archive = archive_of(rt, "plain")?;
     let mut none = SteadyBase::new(rt.alloc());
-    report(rt, "no description", &["scan", "t"], &mut archive, &mut none)?;
-    report(rt, "bad words, no description", &["scan"], &mut archive, &mut none)?;
+    report(
+        rt,
+        "no description",
+        &["scan", "t"],
+        &mut archive,
+        &mut none,
+    )?;
+    report(
+        rt,
+        "bad words, no description",
+        &["scan"],
+        &mut archive,
+        &mut none,
+    )?;
     let mut failing = failing_base(rt, 1)?;
-    report(rt, "failing base", &["scan", "t"], &mut archive, &mut failing)?;
+    report(
+        rt,
+        "failing base",
+        &["scan", "t"],
+        &mut archive,
+        &mut failing,
+    )?;
     let mut failing = failing_base(rt, 1)?;
-    report(rt, "bad words, failing base", &["scan"], &mut archive, &mut failing)?;
+    report(
+        rt,
+        "bad words, failing base",
+        &["scan"],
+        &mut archive,
+        &mut failing,
+    )?;
     let mut failing = failing_base(rt, 2)?;
-    report(rt, "base failing later", &["scan", "t"], &mut archive, &mut failing)?;
+    report(
+        rt,
+        "base failing later",
+        &["scan", "t"],
+        &mut archive,
+        &mut failing,
+    )?;
     let files = archive_of(rt, "plain")?;
     let mut failing = MemoryArchive::new(rt.alloc(), files, &[1]).map_err(|_| AllocError)?;
-    report(rt, "no description, failing archive", &["scan", "t"], &mut failing, &mut none)
+    report(
+        rt,
+        "no description, failing archive",
+        &["scan", "t"],
+        &mut failing,
+        &mut none,
+    )
 }
 
 /// The worked description, of which the call with this number fails.
