@@ -1,15 +1,15 @@
 -- Steps of the walks over the tuples of a multi-insert and over the blocks of a record.
-use Rattle.std.proofs.Common.{◌≡◌, ℕ, zero, suc, ◌+◌, ◌-◌, ◌<◌, ◌≤◌, List, [], ◌∷◌, ◌++◌, Option, Some, None, Result, Ok, Err, refl, sym, subst, ◌∙◌, ap, arith}
-use Rattle.std.specs.Prelude.{IsOk}
+use Rattle.std.proofs.Common.{◌≡◌, ℕ, zero, suc, ◌+◌, ◌-◌, ◌<◌, ◌≤◌, Bool, true, false, List, [], ◌∷◌, ◌++◌, Option, Some, None, Result, Ok, Err, refl, sym, subst, ◌∙◌, ap, arith}
+use Rattle.std.specs.Prelude.{IsOk, drop, length}
 use Rattle.std.proofs.lemmas.Bool.{false≢true}
 use Rattle.wal_record.specs.Record.{Block, Record}
 use Rattle.wal_bodies.specs.declared.types.BodyFault.{BodyFault}
 use Rattle.wal_bodies.specs.declared.types.NewTuple.{NewTuple}
 use Rattle.wal_bodies.specs.declared.types.RecBlock.{RecBlock}
 use Rattle.wal_bodies.specs.Fields.{◌>>=◌, result_map, main_block}
-use Rattle.wal_bodies.specs.Tuples.{even_from, listed_at, listed_from}
-use Rattle.wal_bodies.specs.Typed.{block_with, listed_block, blocks_from}
-use Rattle.wal_bodies.specs.Stored.{optional, tuples_at, if_read, blocks_in}
+use Rattle.wal_bodies.specs.Tuples.{even_from, listed_at, listed_from, tuple_with}
+use Rattle.wal_bodies.specs.Typed.{block_with, listed_block, blocks_from, blocks_of}
+use Rattle.wal_bodies.specs.Stored.{AreListed, DoTuplesStand, if_read, tuples_held, tuples_for, blocks_to}
 
 -- whether as many tuples are there
 abbrev pub checked : List ℕ → ℕ → ℕ → Result (Unit {0}) BodyFault
@@ -34,29 +34,6 @@ pub checked_next : (bytes : List ℕ) (at m n : ℕ) (tuple : NewTuple) (end : �
     → checked bytes end n ≡ checked bytes at m
 unfolding listed_from
 checked_next bytes at m n tuple end e h = rw (e, h) (sym (again tuple (listed_from bytes end n)))
-
--- the block with this id is there
-pub next_is : (rec : Record) (least id : ℕ) (block : Block) → id < 33 → main_block id rec ≡ Some block
-    → blocks_from rec id (33 - id) ≡ blocks_from rec least (33 - least)
-    → blocks_from rec least (33 - least) ≡ block_with [] block ∷ blocks_from rec (id + 1) (33 - (id + 1))
-unfolding blocks_from
-next_is rec least id block bound found before = sym before ∙ at (33 - id) (33 - (id + 1)) (omega arith) where
-  at : (m n : ℕ) → m ≡ suc n → blocks_from rec id m ≡ block_with [] block ∷ blocks_from rec (id + 1) n
-  at m n e = rw (e, found) refl
-
--- it is not
-pub next_passed : (rec : Record) (id : ℕ) → id < 33 → main_block id rec ≡ None
-    → blocks_from rec (id + 1) (33 - (id + 1)) ≡ blocks_from rec id (33 - id)
-unfolding blocks_from
-next_passed rec id bound none = sym (at (33 - id) (33 - (id + 1)) (omega arith)) where
-  at : (m n : ℕ) → m ≡ suc n → blocks_from rec id m ≡ blocks_from rec (id + 1) n
-  at m n e = rw (e, none) refl
-
-pub next_none : (rec : Record) (id : ℕ) → 33 ≤ id → blocks_from rec id (33 - id) ≡ []
-unfolding blocks_from
-next_none rec id bound = at (33 - id) (omega arith) where
-  at : (m : ℕ) → m ≡ 0 → blocks_from rec id m ≡ []
-  at m e = rw e refl
 
 -- the tuples that are there, one at a time
 
@@ -88,25 +65,75 @@ pub rest_there : (bytes : List ℕ) (at n m : ℕ) (tuple : NewTuple) (end : ℕ
 rest_there bytes at n m tuple end e ok h =
     front_ok tuple (listed_from bytes end m) (subst (λ (read : Result (List NewTuple) BodyFault). IsOk read) (opened bytes at n m tuple end e h) ok)
 
+-- one tuple is left, or none
+pub held_none : (is_listed : Bool) (bytes : List ℕ) (at n prefix suffix : ℕ) → n ≡ 0 → tuples_held is_listed bytes at n prefix suffix ≡ []
+unfolding listed_from
+held_none true bytes at n prefix suffix e = rw e refl
+held_none false bytes at n prefix suffix e = rw e refl
+
+pub held_single : (is_listed : Bool) (bytes : List ℕ) (at n m prefix suffix : ℕ) → is_listed ≡ false → n ≡ suc m
+    → tuples_held is_listed bytes at n prefix suffix ≡ tuple_with bytes 0 prefix suffix (drop 5 bytes) ∷ tuples_held is_listed bytes at 0 prefix suffix
+held_single is_listed bytes at n m prefix suffix e s = rw (e, s) refl
+
+pub stands_single : (is_listed : Bool) (bytes : List ℕ) (at n : ℕ) → is_listed ≡ false → DoTuplesStand is_listed bytes at n → 5 ≤ length bytes
+stands_single is_listed bytes at n e h = subst (λ b. DoTuplesStand b bytes at n) e h
+
+pub stands_still : (is_listed : Bool) (bytes : List ℕ) (at n m : ℕ) → is_listed ≡ false → DoTuplesStand is_listed bytes at n → DoTuplesStand is_listed bytes at m
+stands_still is_listed bytes at n m e h = subst (λ b. DoTuplesStand b bytes at m) (sym e) (subst (λ b. DoTuplesStand b bytes at n) e h)
+
+pub stands_listed : (is_listed : Bool) (bytes : List ℕ) (at n : ℕ) → is_listed ≡ true → DoTuplesStand is_listed bytes at n → AreListed bytes at n
+stands_listed is_listed bytes at n e h = subst (λ b. DoTuplesStand b bytes at n) e h
+
+pub stands_on : (is_listed : Bool) (bytes : List ℕ) (at n m : ℕ) (tuple : NewTuple) (end : ℕ) → is_listed ≡ true → n ≡ suc m → end ≤ length bytes
+    → DoTuplesStand is_listed bytes at n → listed_at bytes (even_from at) ≡ Ok (tuple, end) → DoTuplesStand is_listed bytes end m
+stands_on is_listed bytes at n m tuple end e s within h read =
+    let there = stands_listed is_listed bytes at n e h in
+    subst (λ b. DoTuplesStand b bytes end m) (sym e) (record { within = within; read = rest_there bytes at n m tuple end s there.read read })
+
 -- the first of them, and those behind it
-pub one_less : (one after : Option NewTuple) (bytes : List ℕ) (at n m : ℕ) (tuple : NewTuple) (end : ℕ) → one ≡ None → after ≡ None → n ≡ suc m
+pub one_less : (is_listed : Bool) (bytes : List ℕ) (at n m prefix suffix : ℕ) (tuple : NewTuple) (end : ℕ) → is_listed ≡ true → n ≡ suc m
     → IsOk (listed_from bytes at n) → listed_at bytes (even_from at) ≡ Ok (tuple, end)
-    → optional one ++ tuples_at bytes at n ≡ tuple ∷ (optional after ++ tuples_at bytes end m)
-one_less one after bytes at n m tuple end none gone e ok h =
-    rw (none, gone)
+    → tuples_held is_listed bytes at n prefix suffix ≡ tuple ∷ tuples_held is_listed bytes end m prefix suffix
+one_less is_listed bytes at n m prefix suffix tuple end listed e ok h =
+    rw listed
     (ap if_read (opened bytes at n m tuple end e h)
     ∙ front_is tuple (listed_from bytes end m) (subst (λ (read : Result (List NewTuple) BodyFault). IsOk read) (opened bytes at n m tuple end e h) ok))
 
-pub none_left : (one : Option NewTuple) (bytes : List ℕ) (at n : ℕ) → one ≡ None → n ≡ 0 → optional one ++ tuples_at bytes at n ≡ []
-unfolding listed_from
-none_left one bytes at n none e = rw (none, e) refl
+-- the blocks of a record
 
--- no blocks are left
-pub no_blocks : (first second : Option RecBlock) (view : Option Record) (id : ℕ) → first ≡ None → second ≡ None → blocks_in view id ≡ []
-    → optional first ++ (optional second ++ blocks_in view id) ≡ []
-no_blocks first second view id a b e = rw (a, b) e
+behind_first : (id : ℕ) (tuples : List NewTuple) → 0 < id → tuples_for id tuples ≡ []
+behind_first zero tuples h = absurd (omega arith)
+behind_first (suc id) tuples h = refl
 
-pub past_end : (view : Option Record) → blocks_in view 33 ≡ []
-unfolding blocks_from
-past_end None = refl
-past_end (Some rec) = refl
+to_from : (rec : Record) (tuples : List NewTuple) (id n : ℕ) → 0 < id → blocks_to rec tuples id n ≡ blocks_from rec id n
+unfolding blocks_to blocks_from
+to_from rec tuples id zero h = refl
+to_from rec tuples id (suc n) h = rw (behind_first id tuples h, to_from rec tuples (id + 1) n (omega arith)) refl
+
+pub held_are : (rec : Record) (tuples : List NewTuple) (n : ℕ) → blocks_to rec tuples 0 n ≡ blocks_of n tuples rec
+unfolding blocks_to blocks_of
+held_are rec tuples zero = refl
+held_are rec tuples (suc n) = ap (λ l. listed_block tuples (main_block 0 rec) ++ l) (to_from rec tuples 1 n (omega arith))
+
+-- the block with this id is there
+pub next_is : (rec : Record) (tuples : List NewTuple) (from id ids : ℕ) (block : Block) → id < ids → main_block id rec ≡ Some block
+    → blocks_to rec tuples id (ids - id) ≡ blocks_to rec tuples from (ids - from)
+    → blocks_to rec tuples from (ids - from) ≡ block_with (tuples_for id tuples) block ∷ blocks_to rec tuples (id + 1) (ids - (id + 1))
+unfolding blocks_to
+next_is rec tuples from id ids block bound found before = sym before ∙ at (ids - id) (ids - (id + 1)) (omega arith) where
+  at : (m n : ℕ) → m ≡ suc n → blocks_to rec tuples id m ≡ block_with (tuples_for id tuples) block ∷ blocks_to rec tuples (id + 1) n
+  at m n e = rw (e, found) refl
+
+-- it is not
+pub next_passed : (rec : Record) (tuples : List NewTuple) (id ids : ℕ) → id < ids → main_block id rec ≡ None
+    → blocks_to rec tuples (id + 1) (ids - (id + 1)) ≡ blocks_to rec tuples id (ids - id)
+unfolding blocks_to
+next_passed rec tuples id ids bound none = sym (at (ids - id) (ids - (id + 1)) (omega arith)) where
+  at : (m n : ℕ) → m ≡ suc n → blocks_to rec tuples id m ≡ blocks_to rec tuples (id + 1) n
+  at m n e = rw (e, none) refl
+
+pub next_none : (rec : Record) (tuples : List NewTuple) (id ids : ℕ) → ids ≤ id → blocks_to rec tuples id (ids - id) ≡ []
+unfolding blocks_to
+next_none rec tuples id ids bound = at (ids - id) (omega arith) where
+  at : (m : ℕ) → m ≡ 0 → blocks_to rec tuples id m ≡ []
+  at m e = rw e refl

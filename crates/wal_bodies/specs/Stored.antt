@@ -1,16 +1,12 @@
 -- What the lists of a typed record mean that are read where they stand in the record.
-use Rattle.std.specs.Prelude.{◌≡◌, ℕ, ◌+◌, ◌-◌, ◌≤◌, ◌<◌, List, [], ◌∷◌, length, Option, Some, None, Result, Ok, Err, IsOk}
+use Rattle.std.specs.Prelude.{◌≡◌, ℕ, zero, suc, ◌+◌, ◌-◌, ◌≤◌, ◌<◌, Bool, true, false, List, [], ◌∷◌, ◌++◌, length, drop, Option, Some, None, Result, Ok, Err, IsOk}
 use Rattle.wal_record.specs.Record.{Record}
 use Rattle.wal_bodies.specs.declared.types.BodyFault.{BodyFault}
 use Rattle.wal_bodies.specs.declared.types.NewTuple.{NewTuple}
 use Rattle.wal_bodies.specs.declared.types.RecBlock.{RecBlock}
-use Rattle.wal_bodies.specs.Tuples.{listed_from}
-use Rattle.wal_bodies.specs.Typed.{blocks_from, blocks_of}
-
--- what is there, as a list
-abbrev pub optional : {A : Type 0} → Option A → List A
-optional None = []
-optional (Some x) = x ∷ []
+use Rattle.wal_bodies.specs.Fields.{main_block}
+use Rattle.wal_bodies.specs.Tuples.{listed_from, tuple_with}
+use Rattle.wal_bodies.specs.Typed.{blocks_of, listed_block}
 
 -- the first one
 abbrev pub first_of : {A : Type 0} → List A → Option A
@@ -21,25 +17,45 @@ abbrev pub if_read : Result (List NewTuple) BodyFault → List NewTuple
 if_read (Ok tuples) = tuples
 if_read (Err fault) = []
 
--- n tuples of a multi-insert, the first behind this place
-abbrev pub tuples_at : List ℕ → ℕ → ℕ → List NewTuple
-tuples_at bytes at n = if_read (listed_from bytes at n)
+-- the tuple that is all of these bytes, where it is still left
+abbrev pub single : List ℕ → ℕ → ℕ → ℕ → List NewTuple
+single bytes zero prefix suffix = []
+single bytes (suc n) prefix suffix = tuple_with bytes 0 prefix suffix (drop 5 bytes) ∷ []
 
--- they are there
-pub record DoTuplesStand (bytes : List ℕ) (at n : ℕ) : Type 0 where
+-- n tuples of a multi-insert, the first behind this place, or one tuple
+abbrev pub tuples_held : Bool → List ℕ → ℕ → ℕ → ℕ → ℕ → List NewTuple
+tuples_held true bytes at n prefix suffix = if_read (listed_from bytes at n)
+tuples_held false bytes at n prefix suffix = single bytes n prefix suffix
+
+-- n tuples of a multi-insert are there
+pub record AreListed (bytes : List ℕ) (at n : ℕ) : Type 0 where
   pub within : at ≤ length bytes
   pub read : IsOk (listed_from bytes at n)
 
--- the blocks of a record of images from this id on
-abbrev pub blocks_in : Option Record → ℕ → List RecBlock
-blocks_in None id = []
-blocks_in (Some rec) id = blocks_from rec id (33 - id)
+abbrev pub DoTuplesStand : Bool → List ℕ → ℕ → ℕ → Type 0
+DoTuplesStand true bytes at n = AreListed bytes at n
+DoTuplesStand false bytes at n = 5 ≤ length bytes
 
--- the first block of those from this id on, if there is one
-abbrev pub IsNextBlock : Record → ℕ → Option RecBlock → Type 0
-IsNextBlock rec least None = blocks_from rec least (33 - least) ≡ []
-IsNextBlock rec least (Some block) =
-    (block.id < 33) × (blocks_from rec least (33 - least) ≡ block ∷ blocks_from rec (block.id + 1) (33 - (block.id + 1)))
+-- the tuples of the block with this id, where these are those of block 0
+abbrev pub tuples_for : ℕ → List NewTuple → List NewTuple
+tuples_for zero tuples = tuples
+tuples_for (suc id) tuples = []
+
+-- the n blocks from this id on that are there
+unfoldable pub blocks_to : Record → List NewTuple → ℕ → ℕ → List RecBlock
+blocks_to rec tuples id zero = []
+blocks_to rec tuples id (suc n) = listed_block (tuples_for id tuples) (main_block id rec) ++ blocks_to rec tuples (id + 1) n
+
+-- the blocks from an id on whose id is below a number, of the record, if there is one
+abbrev pub blocks_held : Option Record → List NewTuple → ℕ → ℕ → List RecBlock
+blocks_held None tuples from ids = []
+blocks_held (Some rec) tuples from ids = blocks_to rec tuples from (ids - from)
+
+-- the first of these blocks, if there is one
+abbrev pub IsNextBlock : Record → List NewTuple → ℕ → ℕ → Option RecBlock → Type 0
+IsNextBlock rec tuples from ids None = blocks_to rec tuples from (ids - from) ≡ []
+IsNextBlock rec tuples from ids (Some block) =
+    (block.id < ids) × (blocks_to rec tuples from (ids - from) ≡ block ∷ blocks_to rec tuples (block.id + 1) (ids - (block.id + 1)))
 
 -- the blocks whose id is below a number, with these tuples, unless they are refused
 abbrev pub with_blocks : ℕ → Record → Result (List NewTuple) BodyFault → Result (List RecBlock) BodyFault

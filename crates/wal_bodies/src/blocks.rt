@@ -1,9 +1,8 @@
-ghost use Rattle.std.specs.Prelude.{◌≡◌, ◌++◌, ◌≤◌, option_map};
+ghost use Rattle.std.specs.Prelude.{◌≡◌, ◌≤◌, option_map};
 ghost use Rattle.std.specs.Iterator.{YieldsFirst, item_count};
 ghost use Rattle.wal_record.specs.Views.{block_of_view, image_of_view};
-ghost use Rattle.wal_bodies.specs.Fields.{main_block};
 ghost use Rattle.wal_bodies.specs.Typed.{image_of, block_with, blocks_of};
-ghost use Rattle.wal_bodies.specs.Stored.{optional, IsNextBlock};
+ghost use Rattle.wal_bodies.specs.Stored.{tuples_for, IsNextBlock};
 
 use crate::fields::main_block;
 use crate::new_tuples::NewTuples;
@@ -12,69 +11,57 @@ use record_fields::RecBytes;
 use std::marker::Model;
 use wal_record::{BlockView, ImageView, RecordView};
 
-/// The blocks that a record changes, by rising id: an iterator. Contracts see it as the list of those
-/// that are left.
+/// The blocks that a record changes, by rising id, each of which is looked up in the record when it comes:
+/// an iterator. Contracts see it as the list of those that are left.
 #[derive(Debug, Drop)]
 pub struct RecBlocks<'a> {
-    first: Option<RecBlock<'a>>,
-    second: Option<RecBlock<'a>>,
-    /// The record, where blocks from `id` on are looked up in it.
-    view: Option<RecordView<'a>>,
-    id: u8,
+    view: Option<&'a RecordView<'a>>,
+    /// The least id of those that are left.
+    from: u8,
+    /// Their ids are below this number.
+    ids: u8,
+    /// The tuples of block 0.
+    tuples: NewTuples<'a>,
 }
 
 impl<'a> Model for RecBlocks<'a> {
-    ghost use Rattle.std.specs.Prelude.{List, ◌++◌, ◌≤◌};
+    ghost use Rattle.std.specs.Prelude.{List, ◌≤◌, option_map};
     ghost use Rattle.wal_bodies.specs.declared.types.RecBlock.{RecBlock};
 
     ghost Value = { List RecBlock };
 
-    ghost use Rattle.wal_bodies.specs.Stored.{optional, blocks_in};
+    ghost use Rattle.wal_bodies.specs.Stored.{blocks_held};
 
-    ghost view = { λ b. optional b.first ++ (optional b.second ++ blocks_in b.view b.id) };
+    ghost view = { λ b. blocks_held (option_map (λ v. v.now) b.view) b.tuples b.from b.ids };
 
-    ghost invariant = { λ b. b.id ≤ 33 };
+    ghost invariant = { λ b. (b.from ≤ b.ids) × (b.ids ≤ 33) };
 }
 
 impl<'a> RecBlocks<'a> {
-    ghost use Rattle.std.specs.Prelude.{[], ◌∷◌};
-
-    /// At most two blocks.
-    pub fn new(first: Option<RecBlock<'a>>, second: Option<RecBlock<'a>>) -> RecBlocks<'a>
-        ensures { result ≡ optional first.entry ++ optional second.entry }
-    {
-        RecBlocks {
-            first,
-            second,
-            view: None,
-            id: 33,
-        }
-    }
+    ghost use Rattle.std.specs.Prelude.{[]};
 
     pub fn none() -> RecBlocks<'a>
         ensures { result ≡ [] }
     {
-        RecBlocks::new(None, None)
+        RecBlocks {
+            view: None,
+            from: 0,
+            ids: 0,
+            tuples: NewTuples::none(),
+        }
     }
 
-    /// One block.
-    #[tactic(auto, unfolding(crate::specs::Typed::blocks_from))]
-    pub(crate) fn one(block: RecBlock<'a>) -> RecBlocks<'a>
-        ensures { result ≡ block.entry ∷ [] }
-    {
-        RecBlocks::new(Some(block), None)
-    }
-
-    /// All blocks of a record of images, each of which is looked up when it comes.
-    #[tactic(auto, unfolding(crate::specs::Typed::blocks_of, crate::specs::Typed::blocks_from))]
-    pub(crate) fn of_images(view: &RecordView<'a>) -> RecBlocks<'a>
-        ensures { result ≡ blocks_of 33 [] view.now }
+    /// The record's blocks whose id is below a number, with these tuples in block 0.
+    #[tactic(auto, using(crate::proofs::Walks::held_are))]
+    pub(crate) fn of(view: &'a RecordView<'a>, ids: u8, tuples: NewTuples<'a>) -> RecBlocks<'a>
+        requires { ids ≤ 33 }
+        ensures { result ≡ blocks_of ids tuples.entry view.now }
     {
         RecBlocks {
-            first: None,
-            second: None,
-            view: Some(view.again()),
-            id: 0,
+            view: Some(view),
+            from: 0,
+            ids,
+            tuples,
         }
     }
 
@@ -83,10 +70,10 @@ impl<'a> RecBlocks<'a> {
         ensures { result ≡ self.now }
     {
         RecBlocks {
-            first: self.first.as_ref().map(|block| block.again()),
-            second: self.second.as_ref().map(|block| block.again()),
-            view: self.view.as_ref().map(|view| view.again()),
-            id: self.id,
+            view: self.view,
+            from: self.from,
+            ids: self.ids,
+            tuples: self.tuples.again(),
         }
     }
 }
@@ -99,77 +86,50 @@ impl<'a> Iterator for RecBlocks<'a> {
     ghost remaining = { item_count (λ rest. rest) };
 
     fn next(&mut self) -> Option<RecBlock<'a>> {
-        if let Some(block) = self.first.take() {
-            return Some(block);
-        }
-        if let Some(block) = self.second.take() {
-            return Some(block);
-        }
-        let found = match &self.view {
-            Some(view) => next_block(view, self.id),
-            None => None,
-        };
-        match found {
+        let view = self.view?;
+        match next_block(view, self.from, self.ids, &self.tuples) {
             Some(block) => {
-                self.id = block.id + 1;
+                self.from = block.id + 1;
                 Some(block)
             }
             None => {
-                self.id = 33;
+                self.from = self.ids;
                 None
             }
         }
     }
 }
 
-/// The first block whose id is at least this, without tuples.
-fn next_block<'a>(view: &RecordView<'a>, least: u8) -> Option<RecBlock<'a>>
-    requires { least ≤ 33 }
-    ensures { IsNextBlock view.now least result }
+/// The first block whose id is in this range.
+fn next_block<'a>(
+    view: &RecordView<'a>,
+    from: u8,
+    ids: u8,
+    tuples: &NewTuples<'a>,
+) -> Option<RecBlock<'a>>
+    requires { from ≤ ids }
+    ensures { IsNextBlock view.now tuples.now from ids result }
 {
-    for id in least..33 {
+    for id in from..ids {
         if let Some(block) = main_block(view, id) {
-            return Some(block_with(id, block, NewTuples::none()));
+            return Some(block_with(id, block, held_for(id, tuples)));
         }
     }
     None
 }
 
-impl<'a> RecBlock<'a> {
-    /// The same block.
-    fn again(&self) -> RecBlock<'a>
-        ensures { result ≡ self.now }
-    {
-        let image = match &self.image {
-            Some(image) => Some(image.again()),
-            None => None,
-        };
-        RecBlock {
-            id: self.id,
-            locator: self.locator,
-            block: self.block,
-            will_init: self.will_init,
-            image,
-            tuples: self.tuples.again(),
-        }
-    }
-}
-
-impl<'a> RecImage<'a> {
-    /// The same image.
-    fn again(&self) -> RecImage<'a>
-        ensures { result ≡ self.now }
-    {
-        RecImage {
-            apply: self.apply,
-            hole_at: self.hole_at,
-            bytes: RecBytes::new(self.bytes.as_slice()),
-        }
+/// The tuples of the block with this id, where these are those of block 0.
+fn held_for<'a>(id: u8, tuples: &NewTuples<'a>) -> NewTuples<'a>
+    ensures { result ≡ tuples_for id tuples.now }
+{
+    match id {
+        0 => tuples.again(),
+        _ => NewTuples::none(),
     }
 }
 
 /// A block with these tuples.
-pub(crate) fn block_with<'a>(id: u8, block: BlockView<'a>, tuples: NewTuples<'a>) -> RecBlock<'a>
+fn block_with<'a>(id: u8, block: BlockView<'a>, tuples: NewTuples<'a>) -> RecBlock<'a>
     ensures { result ≡ block_with tuples.entry (block_of_view id block.entry) }
 {
     RecBlock {

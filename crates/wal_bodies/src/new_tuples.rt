@@ -1,7 +1,7 @@
-ghost use Rattle.std.specs.Prelude.{◌≡◌, ◌+◌, ◌≤◌, length, IsOk, Ok, IfOk};
+ghost use Rattle.std.specs.Prelude.{◌≡◌, ◌+◌, ◌≤◌, length, drop, IsOk, Ok, IfOk};
 ghost use Rattle.std.specs.Iterator.{YieldsFirst, item_count};
 ghost use Rattle.wal_bodies.specs.Tuples.{tuple_with, listed_at, listed_from};
-ghost use Rattle.wal_bodies.specs.Stored.{tuples_at, first_of};
+ghost use Rattle.wal_bodies.specs.Stored.{first_of};
 
 use crate::types::{BodyFault, NewTuple};
 use pg_types::u16_at;
@@ -12,27 +12,29 @@ use std::marker::Model;
 /// list of those that are left.
 #[derive(Debug, Drop)]
 pub struct NewTuples<'a> {
-    /// One tuple, before those in the bytes.
-    one: Option<NewTuple<'a>>,
-    /// Tuples of a multi-insert.
+    /// They are a multi-insert's. Else one tuple is all of the bytes.
+    is_listed: bool,
     bytes: &'a [u8],
-    /// Where the tuple before ends.
+    /// Where a multi-insert's tuple before ends.
     at: usize,
-    /// How many are left in the bytes.
+    /// How many are left.
     count: usize,
+    /// What the one tuple has of the old one.
+    prefix: u16,
+    suffix: u16,
 }
 
 impl<'a> Model for NewTuples<'a> {
-    ghost use Rattle.std.specs.Prelude.{List, ◌++◌};
+    ghost use Rattle.std.specs.Prelude.{List};
     ghost use Rattle.wal_bodies.specs.declared.types.NewTuple.{NewTuple};
 
     ghost Value = { List NewTuple };
 
-    ghost use Rattle.wal_bodies.specs.Stored.{optional, tuples_at, DoTuplesStand};
+    ghost use Rattle.wal_bodies.specs.Stored.{tuples_held, DoTuplesStand};
 
-    ghost view = { λ t. optional t.one ++ tuples_at t.bytes.now t.at t.count };
+    ghost view = { λ t. tuples_held t.is_listed t.bytes.now t.at t.count t.prefix t.suffix };
 
-    ghost invariant = { λ t. DoTuplesStand t.bytes.now t.at t.count };
+    ghost invariant = { λ t. DoTuplesStand t.is_listed t.bytes.now t.at t.count };
 }
 
 impl<'a> NewTuples<'a> {
@@ -43,35 +45,42 @@ impl<'a> NewTuples<'a> {
         ensures { result ≡ [] }
     {
         NewTuples {
-            one: None,
+            is_listed: true,
             bytes: &[],
             at: 0,
             count: 0,
+            prefix: 0,
+            suffix: 0,
         }
     }
 
-    #[tactic(auto, unfolding(crate::specs::Tuples::listed_from))]
-    pub fn one(tuple: NewTuple<'a>) -> NewTuples<'a>
-        ensures { result ≡ tuple.entry ∷ [] }
+    /// The tuple that is all of these bytes.
+    pub(crate) fn one(bytes: &'a [u8], prefix: u16, suffix: u16) -> NewTuples<'a>
+        requires { 5 ≤ length bytes.now }
+        ensures { result ≡ tuple_with bytes.now 0 prefix suffix (drop 5 bytes.now) ∷ [] }
     {
         NewTuples {
-            one: Some(tuple),
-            bytes: &[],
+            is_listed: false,
+            bytes,
             at: 0,
-            count: 0,
+            count: 1,
+            prefix,
+            suffix,
         }
     }
 
     /// As many tuples of a multi-insert's data as are counted, each of which is there.
-    pub fn listed(bytes: &'a [u8], count: usize) -> NewTuples<'a>
+    pub(crate) fn listed(bytes: &'a [u8], count: usize) -> NewTuples<'a>
         requires { IsOk (listed_from bytes.now 0 count) }
         ensures { listed_from bytes.now 0 count ≡ Ok result }
     {
         NewTuples {
-            one: None,
+            is_listed: true,
             bytes,
             at: 0,
             count,
+            prefix: 0,
+            suffix: 0,
         }
     }
 
@@ -79,15 +88,13 @@ impl<'a> NewTuples<'a> {
     pub fn again(&self) -> NewTuples<'a>
         ensures { result ≡ self.now }
     {
-        let one = match &self.one {
-            Some(tuple) => Some(tuple.again()),
-            None => None,
-        };
         NewTuples {
-            one,
+            is_listed: self.is_listed,
             bytes: self.bytes,
             at: self.at,
             count: self.count,
+            prefix: self.prefix,
+            suffix: self.suffix,
         }
     }
 
@@ -107,11 +114,13 @@ impl<'a> Iterator for NewTuples<'a> {
     ghost remaining = { item_count (λ rest. rest) };
 
     fn next(&mut self) -> Option<NewTuple<'a>> {
-        if let Some(tuple) = self.one.take() {
-            return Some(tuple);
-        }
         if self.count == 0 {
             return None;
+        }
+        if !self.is_listed {
+            self.count = 0;
+            let (_, rest) = self.bytes.split_at(5);
+            return Some(tuple_with(self.bytes, 0, self.prefix, self.suffix, rest));
         }
         match listed_at(self.bytes, self.at + self.at % 2) {
             Ok((tuple, end)) => {
@@ -120,22 +129,6 @@ impl<'a> Iterator for NewTuples<'a> {
                 Some(tuple)
             }
             Err(_) => unreachable!(),
-        }
-    }
-}
-
-impl<'a> NewTuple<'a> {
-    /// The same tuple.
-    fn again(&self) -> NewTuple<'a>
-        ensures { result ≡ self.now }
-    {
-        NewTuple {
-            mask2: self.mask2,
-            mask: self.mask,
-            hoff: self.hoff,
-            prefix: self.prefix,
-            suffix: self.suffix,
-            rest: RecBytes::new(self.rest.as_slice()),
         }
     }
 }

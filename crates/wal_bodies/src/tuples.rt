@@ -1,23 +1,23 @@
-ghost use Rattle.std.specs.Prelude.{◌≡◌, [], is_some, option_map};
-ghost use Rattle.wal_record.specs.Views.{image_of_view};
-ghost use Rattle.wal_bodies.specs.Fields.{main_block, number_from, result_map};
-ghost use Rattle.wal_bodies.specs.Tuples.{inserted, length_from, replaced, updated, listed_from, is_applied, update_tuples, no_tuples, borrows, tuples_of, insert_tuples, multi_tuples};
-ghost use Rattle.wal_bodies.specs.Typed.{ids_of, listed_block};
-ghost use Rattle.wal_bodies.specs.Stored.{optional, with_blocks};
+ghost use Rattle.std.specs.Prelude.{◌≡◌, option_map};
+ghost use Rattle.wal_record.specs.Views.{block_of_view, image_of_view};
+ghost use Rattle.wal_bodies.specs.Fields.{number_from, result_map};
+ghost use Rattle.wal_bodies.specs.Tuples.{inserted, length_from, replaced, updated, listed_from, is_applied, in_data, update_tuples, no_tuples, borrows, tuples_of, insert_tuples, multi_tuples};
+ghost use Rattle.wal_bodies.specs.Typed.{ids_of};
+ghost use Rattle.wal_bodies.specs.Stored.{with_blocks};
 
-use crate::blocks::{RecBlocks, block_with};
+use crate::blocks::RecBlocks;
 use crate::fields::main_block;
-use crate::new_tuples::{NewTuples, listed_at, tuple_with};
-use crate::types::{BodyFault, RecBlock, RecKind};
+use crate::new_tuples::{NewTuples, listed_at};
+use crate::types::{BodyFault, RecKind};
 use pg_types::u16_at;
 use wal_record::{BlockView, RecordView};
 
 /// The blocks that redo of this kind changes, with the tuples that the record puts into its block 0, which a
-/// kind of the heap has to have. Each block is looked up once.
+/// kind of the heap has to have.
 #[tactic(auto, unfolding(crate::specs::Tuples::tuples_of, crate::specs::Typed::ids_of, crate::specs::Typed::blocks_of))]
 pub(crate) fn blocks_of<'a>(
     kind: &RecKind<'a>,
-    view: &RecordView<'a>,
+    view: &'a RecordView<'a>,
 ) -> Result<RecBlocks<'a>, BodyFault>
     ensures { result ≡ with_blocks (ids_of kind.now) view.now (tuples_of kind.now view.now) }
 {
@@ -29,77 +29,71 @@ pub(crate) fn blocks_of<'a>(
         | RecKind::Confirm { .. }
         | RecKind::Lock { .. }
         | RecKind::LockUpdated { .. } => one_block(view),
-        RecKind::Images => Ok(RecBlocks::of_images(view)),
+        RecKind::Images => Ok(RecBlocks::of(view, 33, NewTuples::none())),
         _ => Ok(RecBlocks::none()),
     }
 }
 
-#[tactic(auto, unfolding(crate::specs::Tuples::insert_tuples, crate::specs::Typed::blocks_of, crate::specs::Typed::blocks_from))]
-fn insert_blocks<'a>(view: &RecordView<'a>) -> Result<RecBlocks<'a>, BodyFault>
+#[tactic(auto, unfolding(crate::specs::Tuples::insert_tuples))]
+fn insert_blocks<'a>(view: &'a RecordView<'a>) -> Result<RecBlocks<'a>, BodyFault>
     ensures { result ≡ with_blocks 1 view.now (insert_tuples view.now) }
 {
     let Some(block) = main_block(view, 0) else {
         return Err(BodyFault::Length);
     };
     if is_applied(&block) {
-        return Ok(RecBlocks::one(block_with(0, block, NewTuples::none())));
+        return Ok(RecBlocks::of(view, 1, NewTuples::none()));
     }
     let tuples = inserted(block.payload)?;
-    Ok(RecBlocks::one(block_with(0, block, tuples)))
+    Ok(RecBlocks::of(view, 1, tuples))
 }
 
 #[tactic(auto, unfolding(crate::specs::Tuples::update_tuples, crate::specs::Typed::blocks_of, crate::specs::Typed::blocks_from))]
-fn update_blocks<'a>(flags: u8, view: &RecordView<'a>) -> Result<RecBlocks<'a>, BodyFault>
+fn update_blocks<'a>(flags: u8, view: &'a RecordView<'a>) -> Result<RecBlocks<'a>, BodyFault>
     ensures { result ≡ with_blocks 2 view.now (update_tuples flags view.now) }
 {
     let Some(block) = main_block(view, 0) else {
         return Err(BodyFault::Length);
     };
-    let second = old_block(view);
-    if borrows(flags) && second.is_some() {
-        return Err(BodyFault::Length);
-    }
-    if is_applied(&block) {
-        let first = block_with(0, block, NewTuples::none());
-        return Ok(RecBlocks::new(Some(first), second));
-    }
-    let tuples = updated(flags, block.payload)?;
-    Ok(RecBlocks::new(Some(block_with(0, block, tuples)), second))
-}
-
-/// Block 1, if the record has it.
-fn old_block<'a>(view: &RecordView<'a>) -> Option<RecBlock<'a>>
-    ensures block { optional result ≡ listed_block [] (main_block 1 view.now) }
-    ensures there { is_some result ≡ is_some (main_block 1 view.now) }
-{
     match main_block(view, 1) {
-        Some(block) => Some(block_with(1, block, NewTuples::none())),
-        None => None,
+        Some(_) if borrows(flags) => Err(BodyFault::Length),
+        Some(_) => Ok(RecBlocks::of(view, 2, new_version(flags, &block)?)),
+        None => Ok(RecBlocks::of(view, 1, new_version(flags, &block)?)),
     }
 }
 
-#[tactic(auto, unfolding(crate::specs::Tuples::multi_tuples, crate::specs::Typed::blocks_of, crate::specs::Typed::blocks_from))]
-fn multi_blocks<'a>(count: usize, view: &RecordView<'a>) -> Result<RecBlocks<'a>, BodyFault>
+/// The tuple of an update, if block 0's data is used.
+fn new_version<'a>(flags: u8, block: &BlockView<'a>) -> Result<NewTuples<'a>, BodyFault>
+    ensures { result ≡ in_data (block_of_view 0 block.now) (λ bytes. updated flags bytes) }
+{
+    if is_applied(block) {
+        return Ok(NewTuples::none());
+    }
+    updated(flags, block.payload)
+}
+
+#[tactic(auto, unfolding(crate::specs::Tuples::multi_tuples))]
+fn multi_blocks<'a>(count: usize, view: &'a RecordView<'a>) -> Result<RecBlocks<'a>, BodyFault>
     ensures { result ≡ with_blocks 1 view.now (multi_tuples count view.now) }
 {
     let Some(block) = main_block(view, 0) else {
         return Err(BodyFault::Length);
     };
     if is_applied(&block) {
-        return Ok(RecBlocks::one(block_with(0, block, NewTuples::none())));
+        return Ok(RecBlocks::of(view, 1, NewTuples::none()));
     }
     let tuples = listed(count, block.payload)?;
-    Ok(RecBlocks::one(block_with(0, block, tuples)))
+    Ok(RecBlocks::of(view, 1, tuples))
 }
 
 /// Block 0 without tuples, which the record has to have.
-#[tactic(auto, unfolding(crate::specs::Tuples::no_tuples, crate::specs::Typed::blocks_of, crate::specs::Typed::blocks_from))]
-fn one_block<'a>(view: &RecordView<'a>) -> Result<RecBlocks<'a>, BodyFault>
+#[tactic(auto, unfolding(crate::specs::Tuples::no_tuples))]
+fn one_block<'a>(view: &'a RecordView<'a>) -> Result<RecBlocks<'a>, BodyFault>
     ensures { result ≡ with_blocks 1 view.now (no_tuples view.now) }
 {
     match main_block(view, 0) {
         None => Err(BodyFault::Length),
-        Some(block) => Ok(RecBlocks::one(block_with(0, block, NewTuples::none()))),
+        Some(_) => Ok(RecBlocks::of(view, 1, NewTuples::none())),
     }
 }
 
@@ -128,8 +122,7 @@ fn inserted<'a>(bytes: &'a [u8]) -> Result<NewTuples<'a>, BodyFault>
     if bytes.len() < 5 {
         return Err(BodyFault::Length);
     }
-    let (_, rest) = bytes.split_at(5);
-    Ok(NewTuples::one(tuple_with(bytes, 0, 0, 0, rest)))
+    Ok(NewTuples::one(bytes, 0, 0))
 }
 
 /// An update's tuple.
@@ -169,9 +162,7 @@ fn replaced<'a>(prefix: u16, suffix: u16, bytes: &'a [u8]) -> Result<NewTuples<'
     if bytes.len() < 5 + front {
         return Err(BodyFault::Length);
     }
-    let (_, rest) = bytes.split_at(5);
-    let tuple = tuple_with(bytes, 0, prefix, suffix, rest);
-    Ok(NewTuples::one(tuple))
+    Ok(NewTuples::one(bytes, prefix, suffix))
 }
 
 /// As many tuples of a multi-insert, each of which is there.

@@ -23,7 +23,7 @@ use wal_record::{RecordHead, RecordView};
 /// that the kind needs is missing. `Unsupported` where this standby cannot follow the record.
 #[tactic(auto, unfolding(crate::specs::Typed::typed))]
 pub fn body<'a>(
-    view: &RecordView<'a>,
+    view: &'a RecordView<'a>,
     start: Lsn,
     end: Lsn,
     database: u32,
@@ -48,7 +48,7 @@ pub fn body<'a>(
 /// The record's kind and its blocks.
 #[tactic(auto, unfolding(crate::specs::Typed::read_as))]
 fn read_as<'a>(
-    view: &RecordView<'a>,
+    view: &'a RecordView<'a>,
     database: u32,
     known: &[Locator],
 ) -> Result<(RecKind<'a>, RecBlocks<'a>), BodyFault>
