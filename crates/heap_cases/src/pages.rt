@@ -3,9 +3,8 @@ ghost use Rattle.heap_page.specs.Shown.{IsState};
 
 use crate::items::{header, page_text, parts, show_item};
 use case_text::{Answer, Wrong, bytes, number_u8, number_u16, position};
-use heap_page::{HeapPage, LineState, Page, PageError, check, shows_page};
+use heap_page::{HeapPage, LineState, Page, PageError, PageImage, check, shows_page};
 use std::alloc::Global;
-use wal_record::ImageView;
 
 /// Answers a line about the block, which may be no page.
 pub fn answer(alloc: Global, block: &mut Page, words: &[&str]) -> Result<String, Wrong> {
@@ -82,11 +81,7 @@ pub fn set_page_byte(page: &mut HeapPage, at: &str, value: &str) -> Result<&'sta
 
 /// Puts the page that an image shows over the block.
 fn restored(block: &mut Page, hole_at: u16, bytes: &[u8]) -> Result<&'static str, Wrong> {
-    let image = ImageView {
-        apply: true,
-        hole_at,
-        bytes,
-    };
+    let image = PageImage { hole_at, bytes };
     if !shows_page(&image) {
         return Ok("bad page");
     }

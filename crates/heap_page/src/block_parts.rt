@@ -5,11 +5,10 @@ ghost use Rattle.heap_page.specs.Page.{is_zeros};
 ghost use Rattle.heap_page.specs.Put.{restored};
 
 use crate::image::{assemble, image_parts};
-use crate::line::Page;
+use crate::line::{Page, PageImage};
 use heap_tuple::is_tuple;
 use pg_types::{u16_at, u32_at};
 use std::marker::Model;
-use wal_record::ImageView;
 
 /// A block as an image shows it: a first part, zeros, and the rest at its end. Contracts see the whole block. What is
 /// read of it is read where it stands.
@@ -42,7 +41,7 @@ impl<'a> BlockParts<'a> {
     }
 
     /// The block that a full-page image shows.
-    pub fn image(image: &ImageView<'a>) -> BlockParts<'a>
+    pub fn image(image: &PageImage<'a>) -> BlockParts<'a>
         requires { length image.now.bytes.now ≤ 8192 }
         ensures { result ≡ restored image.now.hole_at image.now.bytes.now }
     {

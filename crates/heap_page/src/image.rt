@@ -5,9 +5,8 @@ ghost use Rattle.heap_page.specs.Put.{restored};
 
 use crate::block_parts::BlockParts;
 use crate::bytes::{write_bytes, write_zeros};
-use crate::line::Page;
+use crate::line::{Page, PageImage};
 use crate::rule::check_parts;
-use wal_record::ImageView;
 
 /// Puts `first` at the begin of the page and `rest` at its end, and zeros between them.
 #[tactic(auto, unfolding(crate::specs::Joined::joined))]
@@ -22,7 +21,7 @@ pub fn assemble(page: &mut Page, first: &[u8], rest: &[u8])
 }
 
 /// What an image holds of its block: the bytes before its hole, and those behind it.
-pub fn image_parts<'a>(image: &ImageView<'a>) -> (&'a [u8], &'a [u8])
+pub fn image_parts<'a>(image: &PageImage<'a>) -> (&'a [u8], &'a [u8])
     ensures joined { joined result.0.now result.1.now ≡ restored image.now.hole_at image.now.bytes.now }
     ensures length { length result.0.now + length result.1.now ≡ length image.now.bytes.now }
 {
@@ -32,7 +31,7 @@ pub fn image_parts<'a>(image: &ImageView<'a>) -> (&'a [u8], &'a [u8])
 }
 
 /// Puts the block that an image shows in place of what stood there.
-pub fn assemble_image(page: &mut Page, image: &ImageView<'_>)
+pub fn assemble_image(page: &mut Page, image: &PageImage<'_>)
     requires { length image.now.bytes.now ≤ 8192 }
     ensures { page.new ≡ restored image.now.hole_at image.now.bytes.now }
 {
@@ -41,7 +40,7 @@ pub fn assemble_image(page: &mut Page, image: &ImageView<'_>)
 }
 
 /// Whether the block that a full-page image shows keeps the page rule. It assembles no page.
-pub fn shows_page(image: &ImageView<'_>) -> bool
+pub fn shows_page(image: &PageImage<'_>) -> bool
     ensures { result ≡ is_page (restored image.now.hole_at image.now.bytes.now) }
 {
     if 8192 < image.bytes.len() {

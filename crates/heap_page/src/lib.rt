@@ -16,6 +16,6 @@ mod typed_page;
 
 pub use image::shows_page;
 pub use laws::{items_end_in_use, one_line_changes, tuples_keep_their_rule, zeros_have_no_items};
-pub use line::{Item, LineState, Page, PageError};
+pub use line::{Item, LineState, Page, PageError, PageImage};
 pub use rule::check;
 pub use typed_page::HeapPage;

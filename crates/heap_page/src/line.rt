@@ -3,6 +3,14 @@ use thiserror::Error;
 /// The bytes of a block of a heap.
 pub type Page = [u8; 8192];
 
+/// A full-page image: the bytes of a block without its hole, which is zeros and stands at `hole_at`
+/// (`RestoreBlockImage`, xlogreader.c).
+#[derive(Clone, Copy, Debug)]
+pub struct PageImage<'a> {
+    pub hole_at: u16,
+    pub bytes: &'a [u8],
+}
+
 /// What stands at a line of a page (`ItemIdData`, itemid.h). A redirect names another line.
 #[derive(Clone, Copy, Debug)]
 pub enum Item<'a> {

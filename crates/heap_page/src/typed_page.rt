@@ -6,12 +6,11 @@ ghost use Rattle.heap_page.specs.Shown.{shown, item_to, IsState, KeepsRule};
 
 use crate::change::{check_head, check_put, put, set_head};
 use crate::image::assemble_image;
-use crate::line::{Item, LineState, Page, PageError};
+use crate::line::{Item, LineState, Page, PageError, PageImage};
 use crate::page::{begin, init, item, lines, lsn, set_line, set_lsn};
 use crate::rule::check;
 use pg_types::Lsn;
 use std::marker::Model;
-use wal_record::ImageView;
 
 /// A page of a heap: a block that keeps the page rule. Contracts see its bytes. The rule is tested where
 /// bytes become a page (`read`, `shows_page`), and each change keeps it.
@@ -174,7 +173,7 @@ impl HeapPage {
     }
 
     /// Makes the block the page that a full-page image shows, whatever the block held.
-    pub fn restore(&mut self, image: &ImageView<'_>)
+    pub fn restore(&mut self, image: &PageImage<'_>)
         requires { IsPage (restored image.now.hole_at image.now.bytes.now) }
         ensures { self.new ≡ restored image.now.hole_at image.now.bytes.now }
     {

@@ -7,12 +7,11 @@ ghost use Rattle.table_schema.specs.Description.{locators};
 
 use crate::block::{anew, changed, is_anew, is_left};
 use crate::fault::{BlockFault, RedoFault, fault_at, pool_fault};
-use heap_page::{HeapPage, shows_page};
+use heap_page::{HeapPage, PageImage, shows_page};
 use page_store::Pool;
 use pg_types::{Locator, Tag};
 use table_schema::Tables;
 use wal_bodies::{Rec, RecBlock, RecImage};
-use wal_record::ImageView;
 
 /// The number of the table that has this file.
 fn table_of(known: &[Locator], locator: Locator) -> Option<usize>
@@ -72,8 +71,7 @@ fn restore(
     ensures err { OnErr result (content pool.new ≡ content pool.old) }
     ensures tables { table_count pool.new ≡ table_count pool.old }
 {
-    let view = ImageView {
-        apply: image.apply,
+    let view = PageImage {
         hole_at: image.hole_at,
         bytes: image.bytes.as_slice(),
     };

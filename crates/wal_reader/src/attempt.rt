@@ -6,13 +6,13 @@ ghost use Rattle.wal_reader.specs.Step as spec;
 ghost use Rattle.wal_reader.specs.Calls.{LogStays, WhereTold, Says, SaysHead, SaysSome, GivesUpPast, text_at, IsThere};
 ghost use Rattle.wal_reader.specs.Records.{SaysAttempt, SaysEnd, IsRead};
 
-use crate::source::Source;
+use crate::source::Gatherer;
 use crate::types::{EndWhy, Halt, NoRecord, Taken, Trouble};
 use outside::LogBytes;
 use pg_types::{Lsn, u32_at};
 use wal_record::{PrevRule, RecordFault, RecordHead, decode_head, lend, shape_of};
 
-impl Source {
+impl Gatherer {
     /// Reads the length of the record whose first byte stands at `start`, and answers it with the position
     /// behind.
     fn begin<L: LogBytes>(&mut self, log: &mut L, start: u64) -> Result<(u32, u64), Trouble>

@@ -6,7 +6,7 @@ ghost use Rattle.wal_reader.specs.Step.{step};
 ghost use Rattle.wal_reader.specs.Calls.{LogStays, WhereTold};
 ghost use Rattle.wal_reader.specs.Standing.{Answers, BearsPosition, IsLent, MovesOn, SaysGiven, StandsStill, lent_at, next_of, past, record_given, shown};
 
-use crate::source::Source;
+use crate::source::Gatherer;
 use crate::types::{EndWhy, Halt, Next, NoRecord, ReadFault, Taken, Trouble};
 use outside::LogBytes;
 use pg_types::{Lsn, NoMemory};
@@ -20,7 +20,7 @@ use wal_record::{PrevRule, RecordShape, RecordView, lend};
 pub struct Reader {
     at: Lsn,
     prev: PrevRule,
-    source: Source,
+    source: Gatherer,
     /// Where the text of the record last given stands among the bytes that are kept, and its length.
     lent: Option<(u64, usize)>,
     /// Where the record last given begins, and where the next one would stand.
@@ -57,7 +57,7 @@ impl Reader {
           given = None;
         }) }
     {
-        let source = Source::new(alloc, system, segsize)?;
+        let source = Gatherer::new(alloc, system, segsize)?;
         Ok(Reader {
             at,
             prev,

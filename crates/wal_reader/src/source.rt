@@ -18,14 +18,14 @@ use wal_page::{Expect, PageFault, PageHead, read_page_header};
 
 /// What the texts of records are gathered from.
 #[derive(Debug, Drop)]
-pub struct Source {
+pub struct Gatherer {
     system: u64,
     segsize: u32,
     window: Window,
     text: Vec<u8>,
 }
 
-impl Model for Source {
+impl Model for Gatherer {
     ghost use Rattle.std.specs.Prelude.{IsTrue};
     ghost use Rattle.pg_types.specs.Names.{IsSegmentSize};
     ghost use Rattle.wal_reader.specs.Calls.{Gathering};
@@ -37,13 +37,13 @@ impl Model for Source {
     ghost invariant = { λ s. IsSegmentSize s.segsize };
 }
 
-impl Source {
-    pub fn new(alloc: Global, system: u64, segsize: u32) -> Result<Source, NoMemory>
+impl Gatherer {
+    pub fn new(alloc: Global, system: u64, segsize: u32) -> Result<Gatherer, NoMemory>
         requires { IsSegmentSize segsize }
         ensures { IfOk result (λ s. s ≡ record { system = system; segsize = segsize; kept = record { from = 0; bytes = [] }; text = [] }) }
     {
         let window = Window::new(alloc)?;
-        Ok(Source {
+        Ok(Gatherer {
             system,
             segsize,
             window,

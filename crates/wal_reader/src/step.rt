@@ -7,13 +7,13 @@ ghost use Rattle.wal_reader.specs.Step as spec;
 ghost use Rattle.wal_reader.specs.Calls.{IsThere, LogStays, WhereTold, text_at};
 ghost use Rattle.wal_reader.specs.Records.{SaysStep, given_up_at, trouble_in_place, IsRead};
 
-use crate::source::Source;
+use crate::source::Gatherer;
 use crate::types::{EndWhy, Halt, NoRecord, Taken, Trouble};
 use outside::LogBytes;
 use pg_types::u64_at;
 use wal_record::{PrevRule, lend};
 
-impl Source {
+impl Gatherer {
     /// Reads the record at the position `at`, after the one that `prev` names, and answers where it begins
     /// and where the next one would stand. Its text is the one that is gathered then.
     pub fn step<L: LogBytes>(

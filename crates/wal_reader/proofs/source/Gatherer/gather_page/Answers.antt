@@ -5,7 +5,7 @@ use Rattle.wal_reader.specs.Gathered.{place_at, gathered}
 use Rattle.wal_reader.specs.Calls.{Gathering, Says, SaysBytes, SaysPart, told_to}
 use Rattle.std.proofs.lemmas.Result.{err_from_is_err_and}
 use Rattle.wal_reader.proofs.Answered.{where_map, where_chain, part_nowhere, part_wanting, part_there}
-use Rattle.wal_reader.proofs.source.Source.gather_page.Goals as goal
+use Rattle.wal_reader.proofs.source.Gatherer.gather_page.Goals as goal
 
 pub returns-in_err-place-clause-answer : goal.returns-in_err-place-clause-answer
 returns-in_err-place-clause-answer g c =

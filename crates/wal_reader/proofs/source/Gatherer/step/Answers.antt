@@ -7,7 +7,7 @@ use Rattle.wal_reader.specs.Records.{SaysAttempt, SaysStep}
 use Rattle.std.proofs.lemmas.Result.{err_from_is_err_and}
 use Rattle.wal_reader.proofs.Answered.{where_map, where_chain}
 use Rattle.wal_reader.proofs.StepSteps as steps
-use Rattle.wal_reader.proofs.source.Source.step.Goals as goal
+use Rattle.wal_reader.proofs.source.Gatherer.step.Goals as goal
 
 pub returns-in_err-start-clause-answer : goal.returns-in_err-start-clause-answer
 returns-in_err-start-clause-answer g c =

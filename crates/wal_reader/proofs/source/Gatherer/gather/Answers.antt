@@ -5,7 +5,7 @@ use Rattle.std.proofs.lemmas.Result.{err_from_is_err_and}
 use Rattle.wal_reader.proofs.GatheredSteps.{less-zero}
 use Rattle.wal_reader.proofs.Answered.{where_start, where_chain, text_start, text_more, text_halts, missing_after, enough_after}
 use Rattle.wal_reader.proofs.Onward.{given_up_before}
-use Rattle.wal_reader.proofs.source.Source.gather.Goals as goal
+use Rattle.wal_reader.proofs.source.Gatherer.gather.Goals as goal
 
 pub loop-left-init : goal.loop-left-init
 loop-left-init g c =

@@ -5,7 +5,7 @@ use Rattle.wal_reader.specs.Calls.{Gathering, SaysText, SaysHead, told_to}
 use Rattle.std.proofs.lemmas.Result.{err_from_is_err_and}
 use Rattle.wal_reader.proofs.Answered.{where_map}
 use Rattle.wal_reader.proofs.RecordSteps.{where_from, begin_unread, begin_refused, begin_there}
-use Rattle.wal_reader.proofs.source.Source.begin.Goals as goal
+use Rattle.wal_reader.proofs.source.Gatherer.begin.Goals as goal
 
 pub returns-in_err-at-clause-answer : goal.returns-in_err-at-clause-answer
 returns-in_err-at-clause-answer g c =

@@ -5,7 +5,7 @@ use Rattle.wal_reader.specs.Kept.{piece_of}
 use Rattle.wal_reader.specs.Calls.{Says, SaysBytes, Gathering, told_to}
 use Rattle.std.proofs.lemmas.Result.{err_from_is_err_and}
 use Rattle.wal_reader.proofs.Answered.{where_map, header_wanting, header_there}
-use Rattle.wal_reader.proofs.source.Source.header_at.Goals as goal
+use Rattle.wal_reader.proofs.source.Gatherer.header_at.Goals as goal
 
 pub returns-in_err-need-clause-answer : goal.returns-in_err-need-clause-answer
 returns-in_err-need-clause-answer g c =

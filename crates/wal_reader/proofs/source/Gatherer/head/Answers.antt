@@ -5,7 +5,7 @@ use Rattle.wal_reader.specs.Calls.{Gathering, SaysText, SaysHead, told_to}
 use Rattle.std.proofs.lemmas.Result.{err_from_is_err_and}
 use Rattle.wal_reader.proofs.Answered.{where_map, where_chain}
 use Rattle.wal_reader.proofs.RecordSteps as steps
-use Rattle.wal_reader.proofs.source.Source.head.Goals as goal
+use Rattle.wal_reader.proofs.source.Gatherer.head.Goals as goal
 
 pub returns-in_err-total-clause-answer : goal.returns-in_err-total-clause-answer
 returns-in_err-total-clause-answer g c =

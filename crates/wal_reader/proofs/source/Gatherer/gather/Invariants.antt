@@ -1,7 +1,7 @@
 use Rattle.std.proofs.Common.{◌≡◌, ◌-◌, ◌^◌, ◌<◌, ◌≤◌, ◌+◌, length, IfSome, Ok}
 use Rattle.wal_reader.specs.Gathered.{gathered}
 use Rattle.wal_reader.specs.Calls.{LogStays, WhereTold, SaysText, less}
-use Rattle.wal_reader.proofs.source.Source.gather.Given as goal
+use Rattle.wal_reader.proofs.source.Gatherer.gather.Given as goal
 
 abbrev pub invariant-loop-left : goal.invariant-loop-left
 invariant-loop-left g l = record {

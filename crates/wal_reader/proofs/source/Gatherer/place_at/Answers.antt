@@ -7,7 +7,7 @@ use Rattle.wal_page.specs.Page.{header_length}
 use Rattle.wal_reader.proofs.GatheredSteps.{inside_page}
 use Rattle.std.proofs.lemmas.Result.{err_from_is_err_and}
 use Rattle.wal_reader.proofs.Answered.{where_start, where_map, place_behind, place_wanting}
-use Rattle.wal_reader.proofs.source.Source.place_at.Goals as goal
+use Rattle.wal_reader.proofs.source.Gatherer.place_at.Goals as goal
 
 pub returns-then-at-ne0-clause-answer : goal.returns-then-at-ne0-clause-answer
 returns-then-at-ne0-clause-answer g c =

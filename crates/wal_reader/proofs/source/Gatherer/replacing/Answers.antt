@@ -3,7 +3,7 @@ use Rattle.wal_record.specs.Shapes.{shaped}
 use Rattle.wal_reader.specs.Calls.{text_at}
 use Rattle.wal_reader.specs.Step.{overwrites}
 use Rattle.wal_reader.proofs.StepSteps.{one_record}
-use Rattle.wal_reader.proofs.source.Source.replacing.Goals as goal
+use Rattle.wal_reader.proofs.source.Gatherer.replacing.Goals as goal
 
 pub returns-then-overwrites-clause-answer : goal.returns-then-overwrites-clause-answer
 returns-then-overwrites-clause-answer c = λ read e.

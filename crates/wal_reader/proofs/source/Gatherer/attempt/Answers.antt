@@ -7,7 +7,7 @@ use Rattle.wal_reader.specs.Calls.{Gathering, told_to}
 use Rattle.wal_reader.specs.Records.{SaysAttempt}
 use Rattle.wal_reader.proofs.LentSteps as steps
 use Rattle.wal_reader.proofs.Answered.{where_found, where_map}
-use Rattle.wal_reader.proofs.source.Source.attempt.Goals as goal
+use Rattle.wal_reader.proofs.source.Gatherer.attempt.Goals as goal
 
 pub overflow_add-start : goal.overflow_add-start
 overflow_add-start g c =

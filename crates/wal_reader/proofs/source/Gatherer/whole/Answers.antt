@@ -4,7 +4,7 @@ use Rattle.pg_types.specs.Numbers.{number_at}
 use Rattle.wal_reader.specs.Calls.{Gathering}
 use Rattle.wal_reader.specs.Kept.{IsInPage}
 use Rattle.wal_reader.proofs.LentSteps.{in_page, told_in_page}
-use Rattle.wal_reader.proofs.source.Source.whole.Goals as goal
+use Rattle.wal_reader.proofs.source.Gatherer.whole.Goals as goal
 
 pub returns-clause-there : goal.returns-clause-there
 returns-clause-there g c = λ x e.
