@@ -1,4 +1,4 @@
-ghost use Rattle.std.specs.Prelude.{◌≡◌, [], IfOk, option_map};
+ghost use Rattle.std.specs.Prelude.{◌≡◌, [], IfOk, OnErr, option_map};
 ghost use Rattle.session_text.specs.Taking.{Kept, given, line_at_end, step};
 
 use crate::request::LONGEST;
@@ -42,6 +42,7 @@ impl LineReader {
     pub fn take(&mut self, alloc: Global, byte: u8) -> Result<Option<Vec<u8>>, NoMemory>
         ensures taken { IfOk result (λ _. self.new ≡ (step self.old byte).0) }
         ensures line { IfOk result (λ line. option_map (λ text. text.items) line ≡ (step self.old byte).1) }
+        ensures err { OnErr result (self.new ≡ self.old) }
     {
         if byte == b'\n' {
             return Ok(self.end(alloc));
