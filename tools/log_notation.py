@@ -18,13 +18,15 @@ Between semicolons stand items `POSITION RECORD`; the position may be left out, 
     record ..                  a record by its fields (record_notation.py)
     give-up N RECORD           the first N bytes of a record, up to a page's end, and a page that says so
     linked L RECORD            a record that names L as the record before
-    for A..B ITEM              the item with each number from A to B in the place of `#`
+    for A..B ITEM              the item with each number from A to B in the place of `#`; `#%25+1` is reckoned of it,
+                               from left to right
     poke L HEX                 turns bytes that were written into others
     prelude                    running, checkpoint and backup-end as a log begins behind a backup
 
 Values are a row's of the table that is named, else of t: (1,one), with `null`, `external`, or `x*40` for 40 times
 the character. The tables are t (file 16385; id int4, note text) and u (file 16390; id int4), in database 16384."""
 import copy
+import operator
 import re
 import struct
 
@@ -42,6 +44,19 @@ def numbers(words):
     return out
 
 
+STEPS = {"+": operator.add, "-": operator.sub, "/": operator.floordiv, "%": operator.mod}
+
+
+def counted(text, number):
+    """The text with the number in the place of each `#`, or what is reckoned of it, as `#%25+1`."""
+    def reckoned(match):
+        out = number
+        for sign, by in re.findall(r"([-+/%])(\d+)", match[1]):
+            out = STEPS[sign](out, int(by))
+        return str(out)
+    return re.sub(r"#((?:[-+/%]\d+)*)", reckoned, text)
+
+
 def repeated(items):
     """The items, of which `for A..B ITEM` stands for one with each number in the place of `#`."""
     for item in items:
@@ -50,7 +65,7 @@ def repeated(items):
             yield item
             continue
         for number in range(int(match[1]), int(match[2]) + 1):
-            yield match[3].replace("#", str(number))
+            yield counted(match[3], number)
 
 
 class Log:

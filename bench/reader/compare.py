@@ -27,7 +27,7 @@ def main():
                 theirs.run(words, folder)
         print("log from %s to %s, best of %d runs each" % (start, end, RUNS))
         ours.tell()
-        print("  " + own)
+        print("  " + own.replace("\n", ", "))
         if words:
             theirs.tell()
             tell_ratio(ours, theirs)

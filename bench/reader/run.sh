@@ -3,6 +3,6 @@
 # pg_waldump --quiet of an installed PostgreSQL over the same log.
 set -e
 here="$(cd "$(dirname "$0")" && pwd)"
-program="$here/../../crates/bench_wal"
-(cd "$program" && rt run >/dev/null)
-exec python3 -B "$here/compare.py" "$program/out/bench_wal" "${1:-16}"
+program="$here/../../crates/bench_layers"
+(cd "$program" && rt run -- help >/dev/null)
+exec python3 -B "$here/compare.py" "$program/out/bench_layers" "${1:-16}"

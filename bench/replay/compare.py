@@ -1,7 +1,7 @@
 """Runs `standby scan t` over logs of several sizes, and the reader alone in turn, and prints the best time, speed and
 peak memory of each, and how they grow.
 
-usage: compare.py STANDBY READER MIB:BLOCKS ..
+usage: compare.py STANDBY BENCH_LAYERS MIB:BLOCKS ..
 """
 import os
 import sys

@@ -7,6 +7,6 @@ here="$(cd "$(dirname "$0")" && pwd)"
 crates="$here/../../crates"
 # Without words the program ends with status 2.
 (cd "$crates/standby" && rt run >/dev/null 2>&1) || true
-(cd "$crates/bench_wal" && rt run >/dev/null)
+(cd "$crates/bench_layers" && rt run -- help >/dev/null)
 [ $# -gt 0 ] || set -- 32:3000 107:10000 256:24000 320:30000
-exec python3 -B "$here/compare.py" "$crates/standby/out/standby" "$crates/bench_wal/out/bench_wal" "$@"
+exec python3 -B "$here/compare.py" "$crates/standby/out/standby" "$crates/bench_layers/out/bench_layers" "$@"

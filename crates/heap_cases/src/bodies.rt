@@ -106,10 +106,10 @@ fn redone(alloc: Global, pool: &mut Pool, rec: &Rec<'_>, tables: &Tables) -> Res
     }
     match redo(rec, tables, pool) {
         Ok(()) => Ok(String::from_str(alloc, "applied")?),
-        Err(RedoFault::PageMissing { lsn, place }) => told(alloc, lsn, "no page", Some(place)),
-        Err(RedoFault::NoTuple { lsn, place }) => told(alloc, lsn, "no tuple", Some(place)),
-        Err(RedoFault::PageFull { lsn, place }) => told(alloc, lsn, "page full", Some(place)),
-        Err(RedoFault::BadPage { lsn, place }) => told(alloc, lsn, "bad page", Some(place)),
+        Err(RedoFault::PageMissing { place }) => told(alloc, rec.start, "no page", Some(place)),
+        Err(RedoFault::NoTuple { place }) => told(alloc, rec.start, "no tuple", Some(place)),
+        Err(RedoFault::PageFull { place }) => told(alloc, rec.start, "page full", Some(place)),
+        Err(RedoFault::BadPage { place }) => told(alloc, rec.start, "bad page", Some(place)),
         Err(RedoFault::Memory) => Err(Wrong::Memory),
     }
 }

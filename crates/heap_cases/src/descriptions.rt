@@ -9,7 +9,7 @@ use case_text::{Answer, Wrong, locator, number_u32};
 use heap_tuple::Column;
 use pg_types::Locator;
 use std::alloc::Global;
-use table_schema::{Key, SchemaFault, Tables, read_schema};
+use table_schema::{SchemaFault, Tables, read_schema};
 
 /// Answers a line: `schema` and a text, `tables` and a text whose tables the next lines look up in, `find NAME`,
 /// `oid N`, `file LOCATOR`, or `row` and a row.
@@ -54,30 +54,15 @@ fn found(alloc: Global, tables: &Tables, what: &str, word: &str) -> Result<Strin
     answer.finish()
 }
 
-/// A key as the description writes it.
-fn key_text(key: Key) -> &'static str {
-    match key {
-        Key::Database => "database",
-        Key::Table => "table",
-        Key::Name => "name",
-        Key::Oid => "oid",
-        Key::File => "file",
-        Key::Column => "column",
-        Key::Kind => "type",
-        Key::Missing => "missing",
-        Key::Other => "other",
-    }
-}
-
 fn fault_text(alloc: Global, fault: SchemaFault) -> Result<String, Wrong> {
     let mut answer = Answer::new(alloc);
     match fault {
-        SchemaFault::Long => answer.say("long"),
+        SchemaFault::TooLong => answer.say("long"),
         SchemaFault::Toml => answer.say("toml"),
         SchemaFault::Field { table, key } => {
             answer.field("field ", u64::from(table));
             answer.say(" ");
-            answer.say(key_text(key));
+            answer.say(key.word());
         }
         SchemaFault::Twice { name } => {
             answer.say("twice ");

@@ -1,7 +1,8 @@
 //! Cases of the layers of the heap: tuples and their values, pages, blocks, records in typed form, their
-//! redo, the rows of a block, and descriptions of tables with their rows as they are printed. Each line is put to the layer that its first word names, and the answer is
-//! printed in words. What has to be printed, in the file stdout, was worked out by hand, or by a program
-//! that has nothing of this repository.
+//! redo, the rows of a block, and descriptions of tables with their rows as they are printed; and, from the first line
+//! `case NAME` on, of transactions. Each line is put to the layer that its first word names, and the answer is printed in words. What has to be
+//! printed, in the file stdout, was worked out by hand, those of transactions from the rules of clog.c, subtrans.c,
+//! procarray.c, snapmgr.c, heapam_visibility.c and xact.c, or by a program that has nothing of this repository.
 #![tactic(auto)]
 
 ghost use Rattle.std.specs.Prelude.{◌≡◌, IfOk};
@@ -9,15 +10,24 @@ ghost use Rattle.page_store.specs.Content.{table_count};
 
 mod bodies;
 mod descriptions;
+mod ids;
 mod items;
 mod kinds;
+mod known;
+mod marks;
 mod pages;
+mod parents;
 mod pools;
 mod printed;
+mod record_changes;
 mod records;
 mod rows;
 mod scans;
+mod session;
+mod snapshots;
+mod statuses;
 mod texts;
+mod transactions;
 mod tuples;
 
 use case_text::{BadLine, Wrong, input, words};
@@ -75,8 +85,8 @@ fn answer_words(alloc: Global, bench: &mut Bench, first: &str, rest: &str) -> Re
     }
 }
 
-/// What is printed for a line: a name alone begins a case, a line of one names its answer, and any other
-/// gives the next answer of the case.
+/// What is printed for a line that begins no case: a line with a name is a case of its own, and any other gives the
+/// next answer of its case.
 fn reply(alloc: Global, bench: &mut Bench, line: &str) -> Result<String, Wrong>
     requires { table_count bench.old.pool ≡ 2 }
     ensures { table_count bench.new.pool ≡ 2 }
@@ -100,6 +110,9 @@ fn main(rt: HostRuntime) -> anyhow::Result<()> {
         if line.is_empty() || line.starts_with('#') {
             continue;
         }
+        if line.starts_with("case ") {
+            break;
+        }
         if line.ends_with(':') {
             bench.tables = None;
             bench.page = [0; 8192];
@@ -113,5 +126,6 @@ fn main(rt: HostRuntime) -> anyhow::Result<()> {
         })?;
         println!(rt; "{text}")?;
     }
+    transactions::answer_all(&rt, text.as_str())?;
     Ok(())
 }

@@ -3,10 +3,10 @@ use crate::items::tuple;
 use crate::kinds::kind;
 use crate::rows::refused;
 use case_text::{Wrong, bytes};
-use heap_tuple::{Cell, Kind, Row, TupleView};
+use heap_tuple::{Cell, Column, Kind, Row, TupleView};
 use pg_types::Bytes;
 use std::alloc::Global;
-use table_schema::{Tables, read_schema};
+use table_schema::{Tables, print_tuple, read_schema};
 
 /// The text of a row, whose values are between bars, each behind its type: `int4=5|text=6162|bool=null`. Bytes
 /// are in hex.
@@ -42,13 +42,30 @@ pub fn of_tuple(alloc: Global, columns: &str, fields: &[&str]) -> Result<String,
     }
 }
 
-/// The text of a tuple's row, or why it has none.
+/// The text of a tuple's row, or why it has none: of the row that is made of the tuple, and of the tuple alone.
+/// Where they are not the same both are shown.
 fn deformed(alloc: Global, tables: &Tables, view: &TupleView<'_>) -> Result<String, Wrong> {
     if tables.locators().is_empty() {
         return Err(Wrong::Line);
     }
-    match view.deform(alloc, tables.columns(0)) {
-        Ok(row) => print(alloc, tables, &row),
+    let columns = tables.columns(0);
+    let alone = undeformed(alloc, columns, view)?;
+    let made = match view.deform(alloc, columns) {
+        Ok(row) => print(alloc, tables, &row)?,
+        Err(fault) => refused(alloc, fault)?,
+    };
+    if made.as_str() == alone.as_str() {
+        Ok(made)
+    } else {
+        Ok(format!(in alloc; "{made}, but of the tuple alone {alone}")?)
+    }
+}
+
+/// The text that is printed of a tuple without making its row, or why there is none.
+fn undeformed(alloc: Global, columns: &[Column], view: &TupleView<'_>) -> Result<String, Wrong> {
+    let mut out = Vec::new(alloc);
+    match print_tuple(columns, view, &mut out) {
+        Ok(()) => shown(alloc, out),
         Err(fault) => refused(alloc, fault),
     }
 }
@@ -68,6 +85,11 @@ fn print(alloc: Global, tables: &Tables, row: &Row) -> Result<String, Wrong> {
     }
     let mut out = Vec::new(alloc);
     tables.print_row(0, row, &mut out)?;
+    shown(alloc, out)
+}
+
+/// A text with its tabs as `~`.
+fn shown(alloc: Global, mut out: Vec<u8>) -> Result<String, Wrong> {
     for byte in out.as_mut_slice() {
         if *byte == b'\t' {
             *byte = b'~';

@@ -12,7 +12,7 @@ use Rattle.heap_page.specs.Write.{number_bytes, written}
 use Rattle.heap_page.proofs.Written.{SameFrom, same-then, same-within, number_at-same, number_at-zeros, number_at-written, length-written, length-number_bytes, before-written, after-written}
 use Rattle.heap_page.proofs.Laid.{Header, Placed, laid-true, true-laid, item_in-lines}
 use Rattle.heap_page.proofs.Changes.{item_of-normal, bounds}
-use Rattle.heap_page.specs.Change.{Becomes}
+use Rattle.heap_page.specs.Change.{Becomes, IsEmpty, IsSet}
 use Rattle.heap_page.proofs.Kept.{Kept, same, laid-kept, items-kept}
 use Rattle.heap_tuple.specs.Tuple.{IsTuple}
 use Rattle.heap_page.proofs.LineLists.{length-trimmed, item_in-trimmed, trimmed-take_unused, length-trimmed_take, unused-is, used-number}
@@ -28,6 +28,7 @@ no-lines page e = ap (λ n. trimmed (map (λ k. item_of page (pointer_of page k)
 
 -- a page that is all zero
 pub record Blank (page : List ℕ) : Type 0 where
+  pub zero : (i : ℕ) → get_or page i 0 ≡ 0
   pub version : version_of page ≡ 0
   pub lsn : lsn_of page ≡ 0
   pub count : line_count page ≡ 0
@@ -40,6 +41,7 @@ blank page h =
     let field : (n at : ℕ) → number_at n page at ≡ 0 = λ n at. number_at-zeros n at page (λ i a b. h i) in
     let count : line_count page ≡ 0 = ap (λ n. (n - 24) / 4) (field 2 12) in
     record {
+      zero = h;
       version = field 2 18;
       lsn = omega (arith, field 4 0, field 4 4);
       count = count;
@@ -99,13 +101,7 @@ empty-laid page h e =
     })
 
 -- a block of zeros with the header of an empty page
-pub record Fresh (page : List ℕ) : Type 0 where
-  pub laid : IsTrue (is_laid page)
-  pub page_is : IsPage page
-  pub items : items_of page ≡ []
-  pub lsn : lsn_of page ≡ 0
-
-pub fresh : (zeros a b c d : List ℕ) → length zeros ≡ 8192 → ((i : ℕ) → get_or zeros i 0 ≡ 0) → a ≡ written zeros 12 (number_bytes 2 24) → b ≡ written a 14 (number_bytes 2 8192) → c ≡ written b 16 (number_bytes 2 8192) → d ≡ written c 18 (number_bytes 2 8196) → Fresh d
+pub fresh : (zeros a b c d : List ℕ) → length zeros ≡ 8192 → ((i : ℕ) → get_or zeros i 0 ≡ 0) → a ≡ written zeros 12 (number_bytes 2 24) → b ≡ written a 14 (number_bytes 2 8192) → c ≡ written b 16 (number_bytes 2 8192) → d ≡ written c 18 (number_bytes 2 8196) → IsEmpty d
 unfolding lsn_of
 fresh zeros a b c d size none ea eb ec ed =
     let la = length-number_bytes 2 24 in
@@ -141,7 +137,7 @@ fresh zeros a b c d size none ea eb ec ed =
     }) lower in
     record {
       laid = laid;
-      page_is = laid-page d sd laid;
+      page = laid-page d sd laid;
       items = no-lines d (ap (λ n. (n - 24) / 4) lower);
       lsn = omega (arith, dz 4 0 (omega arith), dz 4 4 (omega arith));
     }
@@ -237,12 +233,7 @@ in_use page n h u =
     record { laid = laid-line page (n - 1) h below; low = used.0; below = below }
 
 -- the position is set
-pub record PositionSet (old new : List ℕ) (position : ℕ) : Type 0 where
-  pub laid : IsTrue (is_laid new)
-  pub items : items_of new ≡ items_of old
-  pub lsn : lsn_of new ≡ position
-
-pub position-set : (old mid new : List ℕ) (position : ℕ) → IsTrue (is_laid old) → length old ≡ 8192 → position < 2 ^ 64 → mid ≡ written old 0 (number_bytes 4 (position / 2 ^ 32)) → new ≡ written mid 4 (number_bytes 4 (position % 2 ^ 32)) → PositionSet old new position
+pub position-set : (old mid new : List ℕ) (position : ℕ) → IsTrue (is_laid old) → length old ≡ 8192 → position < 2 ^ 64 → mid ≡ written old 0 (number_bytes 4 (position / 2 ^ 32)) → new ≡ written mid 4 (number_bytes 4 (position % 2 ^ 32)) → IsSet old new position
 unfolding lsn_of
 position-set old mid new position rule size small em en =
     let lm = length-number_bytes 4 (position / 2 ^ 32) in
@@ -282,7 +273,7 @@ position-set old mid new position rule size small em en =
     let low : number_at 4 new 4 ≡ position % 2 ^ 32 =
     ap (λ x. number_at 4 x 4) en ∙ number_at-written 4 (position % 2 ^ 32) 4 mid (omega arith) (omega arith) in
     record {
-      laid = true-laid new (laid-kept old new laid kept 0 (λ k l. same (omega (arith, count, l)) (pointers k (omega (arith, count, l)))));
+      page = laid-page new sn (true-laid new (laid-kept old new laid kept 0 (λ k l. same (omega (arith, count, l)) (pointers k (omega (arith, count, l))))));
       items = items-kept old new laid kept (omega (arith, count)) pointers (λ k p l. absurd (omega (arith, count, p, l)));
       lsn = omega (arith, high, low);
     }

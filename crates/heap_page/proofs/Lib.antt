@@ -11,3 +11,4 @@ pub mod Rooms
 pub mod Taken
 pub mod Written
 mod Parted
+pub mod Answered

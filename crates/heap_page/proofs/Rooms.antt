@@ -1,10 +1,10 @@
 -- The room that tuples take, and changes one after another.
-use Rattle.std.proofs.Common.{◌≡◌, ◌≢◌, inl, inr, ℕ, ◌+◌, ◌-◌, ◌*◌, ◌/◌, ◌%◌, ◌<◌, ◌≤◌, max, true, false, List, [], ◌∷◌, ◌++◌, length, take, drop, sum_by, Ok, Err, IsTrue, subst, refl, sym, ap, ◌∙◌, arith}
+use Rattle.std.proofs.Common.{◌≡◌, ◌≢◌, inl, inr, ℕ, ◌+◌, ◌-◌, ◌*◌, ◌/◌, ◌%◌, ◌<◌, ◌≤◌, max, true, false, List, [], ◌∷◌, ◌++◌, length, take, drop, sum_by, IsTrue, subst, refl, sym, ap, ◌∙◌, arith}
 use Rattle.std.proofs.lemmas.Bool.Decides.{nat_tests}
 use Rattle.std.proofs.lemmas.Bool.{cases_eq, cases_lt, false≢true}
-use Rattle.std.proofs.lemmas.List.{take_all, take-append-drop, length-take-le, length-drop, length-append, drop-drop, drop-take}
+use Rattle.std.proofs.lemmas.List.{take_all, take-append-drop, length-take-le, length-drop, length-append}
 use Rattle.std.proofs.lemmas.List.Sums.{sum_by-cons, sum_by_more, sum_by_more_le, sum_by-take-le}
-use Rattle.heap_tuple.specs.Tuple.{is_tuple, IsTuple}
+use Rattle.heap_tuple.specs.Tuple.{IsTuple}
 use Rattle.heap_page.specs.Item.{Item, unused, normal, redirect, dead, before_trimmed, trimmed, with_item, item_in, aligned, room_of, room_in, numbered, is_normal, is_unused, tuple_in}
 use Rattle.heap_page.specs.Page.{lower_of, upper_of, line_count, pointer_of, offset_in, state_in, length_in, bytes_at, item_of, lines_of, items_of, is_laid, IsPage}
 use Rattle.heap_page.specs.Change.{Becomes}
@@ -13,8 +13,6 @@ use Rattle.heap_page.proofs.LineLists.{trimmed-same, trimmed-with_item, item_in-
 use Rattle.heap_page.proofs.Changes.{item_of-normal, bounds}
 use Rattle.heap_page.proofs.Header.{placed-at, page-size, length-lines, in_use, numbered-at, lines-bound}
 use Rattle.heap_page.proofs.Overwrite.{long-tuple}
-use Rattle.heap_page.specs.Put.{with_head, set_head_answer}
-use Rattle.heap_page.specs.declared.line.PageError.TheVariants.{BadPage}
 
 room_in-before_trimmed : (item : Item) (items : List Item) → room_in (before_trimmed item items) ≡ room_of item + room_in items
 room_in-before_trimmed unused [] = refl
@@ -183,6 +181,7 @@ normal-used dead h = absurd (false≢true h)
 -- a line that has a tuple, by its number
 pub record NormalLine (page : List ℕ) (n : ℕ) : Type 0 where
   pub laid : IsTrue (is_laid page)
+  pub low : 0 < n
   pub below : n - 1 < line_count page
   pub few : n - 1 < 2042
   pub points : state_in (pointer_of page (n - 1)) ≡ 1
@@ -199,6 +198,7 @@ normal_line page n rule h =
     let p = (laid-true page used.laid).placed (n - 1) used.below points in
     record {
       laid = used.laid;
+      low = used.low;
       below = used.below;
       few = omega (arith, used.below, lines-bound page rule);
       points = points;
@@ -206,25 +206,6 @@ normal_line page n rule h =
       long = long-tuple page w p (page-size page rule);
       bytes = ap tuple_in (is ∙ item_of-normal page w points);
     }
-
--- the bytes behind a tuple's header
-pub rest-of : (page : List ℕ) (pointer offset len : ℕ) (rest head : List ℕ) → offset ≡ offset_in pointer → len ≡ length_in pointer → 23 ≤ len → rest ≡ take (len - 23) (drop (offset + 23) page) → head ++ rest ≡ with_head (bytes_at page pointer) head
-rest-of page pointer offset len rest head o l min e =
-    let more : len ≡ 23 + (len - 23) = omega arith in
-    ap (λ xs. head ++ xs)
-    (e ∙ ap (take (len - 23)) (sym (drop-drop 23 offset page))
-    ∙ sym (drop-take 23 (len - 23) (drop offset page))
-    ∙ ap (λ n. drop 23 (take n (drop offset page))) (sym more ∙ l)
-    ∙ ap (λ n. drop 23 (take (length_in pointer) (drop n page))) o)
-
--- the answers of a change of a tuple's header
-pub head-refused : (items : List Item) (n : ℕ) (head : List ℕ) → is_normal (numbered items n) ≡ true → is_tuple (with_head (tuple_in (numbered items n)) head) ≡ false → Err BadPage ≡ set_head_answer items n head
-unfolding set_head_answer
-head-refused items n head h e = rw (h, e) refl
-
-pub head-done : (items : List Item) (n : ℕ) (head : List ℕ) → is_normal (numbered items n) ≡ true → is_tuple (with_head (tuple_in (numbered items n)) head) ≡ true → Ok tt ≡ set_head_answer items n head
-unfolding set_head_answer
-head-done items n head h e = rw (h, e) refl
 
 -- a tuple among the items of a page keeps the tuple rule
 pub tuple-of-page : (page : List ℕ) (n : ℕ) (bytes : List ℕ) → IsPage page → numbered (items_of page) n ≡ normal bytes → IsTuple bytes

@@ -3,6 +3,7 @@ pub mod Item
 pub mod Joined
 pub mod Law
 pub mod Page
+pub mod Parts
 pub mod Put
 pub mod Shown
 pub mod Unit

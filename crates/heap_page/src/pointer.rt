@@ -1,11 +1,11 @@
-ghost use Rattle.std.specs.Prelude.{◌≡◌, ◌≢◌, ◌+◌, ◌*◌, ◌^◌, ◌≤◌, ◌<◌, ◌%◌, ◌++◌, ℕ, List, length, take, drop, IsTrue, []};
+ghost use Rattle.std.specs.Prelude.{◌≡◌, ◌≢◌, ◌+◌, ◌*◌, ◌≤◌, ◌<◌, ◌%◌, ◌++◌, ℕ, List, length, take, drop, IsTrue, []};
 ghost use Rattle.heap_tuple.specs.Tuple.{IsTuple};
 ghost use Rattle.heap_page.specs.Change.{Becomes};
 ghost use Rattle.heap_page.specs.Item.{with_item, normal, aligned};
-ghost use Rattle.heap_page.specs.Page.{pointer_of, pointer_with, offset_in, state_in, length_in, bytes_at, item_of, line_count, lower_of, upper_of, lsn_of, items_of, is_laid};
+ghost use Rattle.heap_page.specs.Page.{pointer_of, state_in, bytes_at, item_of, line_count, lower_of, upper_of, items_of, is_laid};
+ghost use Rattle.heap_page.specs.Parts.{HasParts};
 ghost use Rattle.heap_page.specs.Put.{with_head};
 ghost use Rattle.heap_page.specs.Shown.{item_to, IsState};
-ghost use Rattle.heap_page.specs.Write.{number_bytes, written};
 
 use crate::bytes::{write_bytes, write_u16, write_u32, write_zeros};
 use crate::line::{LineState, Page};
@@ -29,18 +29,14 @@ pub struct Pointer {
 /// Line pointer `k`, from 0.
 pub fn pointer_at(page: &Page, k: usize) -> Pointer
     requires { k < 2042 }
-    ensures offset { result.offset ≡ offset_in (pointer_of page.now k) }
-    ensures state { result.state ≡ state_in (pointer_of page.now k) }
-    ensures length { result.length ≡ length_in (pointer_of page.now k) }
+    ensures { HasParts result (pointer_of page.now k) }
 {
     pointer_of_word(u32_at(page, 24 + 4 * k))
 }
 
 /// The parts of a line pointer's word.
 pub fn pointer_of_word(word: u32) -> Pointer
-    ensures offset { result.offset ≡ offset_in word }
-    ensures state { result.state ≡ state_in word }
-    ensures length { result.length ≡ length_in word }
+    ensures { HasParts result word }
 {
     Pointer {
         offset: (word % 32768) as u16,
@@ -57,21 +53,6 @@ pub fn line_count(page: &Page) -> usize
     lower.saturating_sub(24) / 4
 }
 
-/// Puts line pointer `k`.
-fn write_pointer(page: &mut Page, k: usize, pointer: Pointer)
-    requires line { k < 2042 }
-    requires offset { pointer.offset < 2 ^ 15 }
-    requires state { pointer.state < 2 ^ 2 }
-    requires length { pointer.length < 2 ^ 15 }
-    ensures { page.new ≡ written page.old (24 + 4 * k)
-        (number_bytes 4 (pointer_with pointer.offset pointer.state pointer.length)) }
-{
-    let offset = u32::from(pointer.offset);
-    let state = u32::from(pointer.state);
-    let length = u32::from(pointer.length);
-    write_u32(page, 24 + 4 * k, offset + state * 32768 + length * 131072);
-}
-
 /// Gives a line a state without a tuple.
 pub fn change_line(page: &mut Page, k: usize, to: LineState)
     requires laid { IsTrue (is_laid page.old) }
@@ -80,35 +61,19 @@ pub fn change_line(page: &mut Page, k: usize, to: LineState)
     ensures { Becomes page.old page.new (with_item (items_of page.old) k (item_to to))
         (lower_of page.old) (upper_of page.old) }
 {
-    let pointer = empty_pointer(to);
-    write_pointer(page, k, pointer);
+    write_u32(page, 24 + 4 * k, empty_pointer(to));
 }
 
 /// The line pointer of a line without a tuple.
-fn empty_pointer(to: LineState) -> Pointer
+fn empty_pointer(to: LineState) -> u32
     requires { IsState to }
-    ensures offset { result.offset < 2 ^ 15 }
-    ensures state { result.state < 2 ^ 2 }
-    ensures empty { result.state ≢ 1 }
-    ensures length { result.length ≡ 0 }
-    ensures item { (page : List ℕ) → item_of page (pointer_with result.offset result.state result.length) ≡ item_to to }
+    ensures empty { state_in result ≢ 1 }
+    ensures item { (page : List ℕ) → item_of page result ≡ item_to to }
 {
     match to {
-        LineState::Unused => Pointer {
-            offset: 0,
-            state: 0,
-            length: 0,
-        },
-        LineState::Redirect(line) => Pointer {
-            offset: line,
-            state: REDIRECT,
-            length: 0,
-        },
-        LineState::Dead => Pointer {
-            offset: 0,
-            state: DEAD,
-            length: 0,
-        },
+        LineState::Unused => 0,
+        LineState::Redirect(line) => line as u32 + 2 * 32768,
+        LineState::Dead => 3 * 32768,
     }
 }
 
@@ -149,20 +114,15 @@ pub fn point_line(page: &mut Page, k: usize, at: u16, length: u16)
         (with_item (items_of page.old) k (normal (take length (drop at page.old))))
         (lower_of page.old) at }
 {
-    let pointer = Pointer {
-        offset: at,
-        state: NORMAL,
-        length,
-    };
-    write_pointer(page, k, pointer);
+    let pointer = at as u32 + 32768 + length as u32 * 131072;
+    write_u32(page, 24 + 4 * k, pointer);
     write_u16(page, 14, at);
 }
 
-/// Puts another header into the tuple of line `k`, which begins at `start`.
-pub fn overwrite_head(page: &mut Page, k: usize, start: usize, head: &[u8; 23])
+/// Puts another header into the tuple of line `k`.
+pub fn overwrite_head(page: &mut Page, k: usize, head: &[u8; 23])
     requires laid { IsTrue (is_laid page.old) }
     requires line { k < line_count page.old }
-    requires start { start ≡ offset_in (pointer_of page.old k) }
     requires normal { state_in (pointer_of page.old k) ≡ 1 }
     requires tuple { IsTuple (with_head (bytes_at page.old (pointer_of page.old k)) head.now) }
     ensures { Becomes page.old page.new
@@ -170,6 +130,7 @@ pub fn overwrite_head(page: &mut Page, k: usize, start: usize, head: &[u8; 23])
         (normal (with_head (bytes_at page.old (pointer_of page.old k)) head.now)))
         (lower_of page.old) (upper_of page.old) }
 {
+    let start = pointer_at(page, k).offset as usize;
     write_bytes(page, start, head);
 }
 

@@ -1,7 +1,8 @@
-ghost use Rattle.std.specs.Prelude.{◌≡◌, ◌↔◌, ℕ, ◌+◌, ◌≤◌, ◌<◌, true, false, length, get_or, IsTrue};
+ghost use Rattle.std.specs.Prelude.{◌≡◌, ◌+◌, ◌≤◌, ◌<◌, length, IsTrue};
 ghost use Rattle.heap_page.specs.Item.{aligned};
-ghost use Rattle.heap_page.specs.Page.{pointer_of, line_count, offset_in, state_in, length_in, is_zeros, is_header, is_placed, are_apart, all_below, is_laid, is_page};
-ghost use Rattle.heap_page.specs.Unit.{AreFree};
+ghost use Rattle.heap_page.specs.Page.{pointer_of, line_count, is_zeros, is_header, is_placed, are_apart, all_below, is_laid, is_page};
+ghost use Rattle.heap_page.specs.Parts.{HasParts};
+ghost use Rattle.heap_page.specs.Unit.{AreFree, ArePlaced, TakesUnits};
 
 use crate::block_parts::BlockParts;
 use crate::line::Page;
@@ -52,9 +53,7 @@ fn is_header(page: &BlockParts<'_>) -> bool
 /// Line pointer `k`, from 0.
 fn pointer_at(page: &BlockParts<'_>, k: usize) -> Pointer
     requires { k < 2042 }
-    ensures offset { result.offset ≡ offset_in (pointer_of page.now k) }
-    ensures state { result.state ≡ state_in (pointer_of page.now k) }
-    ensures length { result.length ≡ length_in (pointer_of page.now k) }
+    ensures { HasParts result (pointer_of page.now k) }
 {
     pointer_of_word(page.u32_at(24 + 4 * k))
 }
@@ -109,10 +108,7 @@ fn end_of_room(pointer: Pointer) -> usize
 fn take_units(taken: &mut [bool], first: usize, end: usize) -> bool
     requires order { first ≤ end }
     requires units { end ≤ length taken.old }
-    ensures free { IsTrue result ↔ AreFree taken.old first end }
-    ensures inside { IsTrue result → (unit : ℕ) → first ≤ unit → unit < end → get_or taken.new unit false ≡ true }
-    ensures before { (unit : ℕ) → unit < first → get_or taken.new unit false ≡ get_or taken.old unit false }
-    ensures past { (unit : ℕ) → end ≤ unit → get_or taken.new unit false ≡ get_or taken.old unit false }
+    ensures { TakesUnits taken.old taken.new first end result }
 {
     for unit in first..end {
         if taken[unit] {
@@ -125,8 +121,7 @@ fn take_units(taken: &mut [bool], first: usize, end: usize) -> bool
 
 /// Whether no unit of 8 bytes is taken by the tuples of two lines. All units are free before.
 fn units_are_taken_once(page: &BlockParts<'_>, taken: &mut [bool]) -> bool
-    requires header { IsTrue (is_header page.now) }
-    requires placed { IsTrue (all_below (λ k. is_placed page.now (pointer_of page.now k)) (line_count page.now)) }
+    requires lines { ArePlaced page.now }
     requires units { length taken.old ≡ 1024 }
     requires free { AreFree taken.old 0 1024 }
     ensures { result ≡ all_below
@@ -144,18 +139,6 @@ fn units_are_taken_once(page: &BlockParts<'_>, taken: &mut [bool]) -> bool
         }
     }
     true
-}
-
-/// Whether no unit of 8 bytes is taken by the tuples of two lines.
-fn lines_share_no_unit(page: &BlockParts<'_>) -> bool
-    requires header { IsTrue (is_header page.now) }
-    requires placed { IsTrue (all_below (λ k. is_placed page.now (pointer_of page.now k)) (line_count page.now)) }
-    ensures { result ≡ all_below
-        (λ k. all_below (λ j. are_apart (pointer_of page.now j) (pointer_of page.now k)) k)
-        (line_count page.now) }
-{
-    let mut taken = [false; 1024];
-    units_are_taken_once(page, &mut taken)
 }
 
 /// Whether each tuple ends at or before the begin of the one of the line before it, as on a page that was
@@ -181,11 +164,14 @@ fn lines_descend(page: &BlockParts<'_>) -> bool
 
 /// Whether each two lines, all of them placed, are apart.
 fn lines_are_apart(page: &BlockParts<'_>) -> bool
-    requires header { IsTrue (is_header page.now) }
-    requires placed { IsTrue (all_below (λ k. is_placed page.now (pointer_of page.now k)) (line_count page.now)) }
+    requires { ArePlaced page.now }
     ensures { result ≡ all_below
         (λ k. all_below (λ j. are_apart (pointer_of page.now j) (pointer_of page.now k)) k)
         (line_count page.now) }
 {
-    lines_descend(page) || lines_share_no_unit(page)
+    if lines_descend(page) {
+        return true;
+    }
+    let mut taken = [false; 1024];
+    units_are_taken_once(page, &mut taken)
 }

@@ -1,5 +1,5 @@
 -- The blocks of a record, one after the other.
-use Rattle.std.proofs.Common.{ap, sym, refl, ◌∙◌, ◌≡◌, List, [], ◌∷◌, ◌++◌, length, take, slice_get, Option, Some, Result, Ok, Err}
+use Rattle.std.proofs.Common.{ap, sym, refl, ◌∙◌, ◌≡◌, List, [], ◌∷◌, ◌++◌, length, take, slice_get, Some, Result, Ok, Err}
 use Rattle.pg_types.specs.declared.names.Locator.{Locator}
 use Rattle.wal_bodies.specs.declared.types.Rec.{Rec}
 use Rattle.wal_bodies.specs.declared.types.RecBlock.{RecBlock}

@@ -1,5 +1,5 @@
 -- An update, by the versions that it changes.
-use Rattle.std.proofs.Common.{arith, ap, sym, refl, ◌∙◌, ◌++◌, ◌∷◌, [], ◌+◌, ◌-◌, ◌≡◌, ◌≤◌, ◌<◌, inl, inr, nat_lt, nat_le, not, cond, get_or, ℕ, zero, suc, Bool, true, false, List, length, take, drop, Option, Some, None, Result, Ok, Err, length-append, take-append-drop, append-nil, ◌==◌}
+use Rattle.std.proofs.Common.{arith, ap, sym, refl, ◌∙◌, ◌++◌, ◌∷◌, [], ◌+◌, ◌-◌, ◌≡◌, ◌≤◌, ◌<◌, inl, inr, nat_lt, nat_le, not, cond, get_or, ℕ, zero, suc, Bool, true, false, List, length, take, drop, Some, None, Result, Ok, Err, length-append, take-append-drop, append-nil}
 use Rattle.std.proofs.lemmas.Bool.{cases_lt}
 use Rattle.std.proofs.lemmas.Bool.Decides.{nat_tests}
 use Rattle.std.proofs.lemmas.List.{take_all, length-take, drop_all}

@@ -111,7 +111,7 @@ module _ (rec : Rec) (block : RecBlock) (view : View) (tag : Tag) where
       ∙ with_seen-same view tag)
 
   -- a page of the pool was changed, or not
-  pub page-outcome : is_anew block ≡ false → (next : View) (bytes : List ℕ) → next ≡ with_seen view tag (seen (Some bytes)) → (result : Result (Unit {0}) RedoFault) (left : Result Seen BlockRefusal) → fault_outcome bytes result ≡ fault_by rec block left → view_outcome next result ≡ view_by rec block view tag left
+  pub page-outcome : is_anew block ≡ false → (next : View) (bytes : List ℕ) → next ≡ with_seen view tag (seen (Some bytes)) → (result : Result (Unit {0}) RedoFault) (left : Result Seen BlockRefusal) → fault_outcome bytes result ≡ fault_by block left → view_outcome next result ≡ view_by rec block view tag left
   page-outcome anew next bytes e (Ok done) (Ok left) h =
       let ok : View → Result View RedoFault = λ v. Ok v in
       let same : seen (Some bytes) ≡ left = cc in
@@ -121,16 +121,16 @@ module _ (rec : Rec) (block : RecBlock) (view : View) (tag : Tag) where
   page-outcome anew next bytes e (Err fault) (Err refusal) h = cc
 
   -- the pool has no page of the block
-  pub missing-outcome : (block.block == 4294967295) ≡ false → is_anew block ≡ false → is_left rec block ≡ false → (here : Option (List ℕ)) (fault : PoolFault) → Err fault ≡ page_answer here → Err (pool_fault_at rec block fault) ≡ view_by rec block view tag (redone_block rec block (seen here))
+  pub missing-outcome : (block.block == 4294967295) ≡ false → is_anew block ≡ false → is_left rec block ≡ false → (here : Option (List ℕ)) (fault : PoolFault) → Err fault ≡ page_answer here → Err (pool_fault_at block fault) ≡ view_by rec block view tag (redone_block rec block (seen here))
   unfolding page_answer seen
   missing-outcome below anew left None fault e =
       let same : fault ≡ Missing = cc in
       let err : RedoFault → Result View RedoFault = λ f. Err f in
-      ap (λ f. err (pool_fault_at rec block f)) same ∙ ap (view_by rec block view tag) (missing-refused rec block below anew left)
+      ap (λ f. err (pool_fault_at block f)) same ∙ ap (view_by rec block view tag) (missing-refused rec block below anew left)
   missing-outcome below anew left (Some bytes) fault e =
       let why = fault-of (is_page bytes) bytes fault e in
       let err : RedoFault → Result View RedoFault = λ f. Err f in
-      ap (λ f. err (pool_fault_at rec block f)) why.0
+      ap (λ f. err (pool_fault_at block f)) why.0
       ∙ ap (view_by rec block view tag) (broken-refused rec block below anew left ∙ ap (λ v. redone_block rec block (cond v (seen_page (lsn_of bytes) (items_of bytes)) bad_block)) (sym why.1))
 
   -- a block was made anew

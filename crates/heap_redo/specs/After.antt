@@ -13,6 +13,7 @@ use Rattle.wal_bodies.specs.declared.types.RecBlock.{RecBlock}
 use Rattle.wal_bodies.specs.declared.types.Rec.{Rec}
 use Rattle.wal_bodies.specs.declared.types.RecKind.{RecKind}
 use Rattle.wal_bodies.specs.declared.types.RecKind.TheVariants.{Checkpoint, BackupEnd, Parameters, FullPageWrites, Images, Overwrite, Ended, Running, Insert, Delete, Update, Confirm, Lock, MultiInsert, LockUpdated, Other}
+pub use Rattle.wal_bodies.specs.Typed.{number_of}
 use Rattle.heap_redo.specs.TupleHeads.{Head, head_of, head_bytes, marked, pointing_to, deleted, replaced, locked}
 
 -- why a record is refused at a block: the block is missing, a line is not as the record has it, there is
@@ -118,11 +119,6 @@ update_within rec block is_hot old_xmax old_line old_bits new_xmax new_line item
       next ← update_old is_hot old_xmax old_line old_bits block.block new_line items
       if is_short block.tuples old then Err (no_tuple old_line)
           else put_version rec.head.xid.0 new_xmax block.block new_line block.tuples old next
-
--- the number of the block with this id, if the record has one
-abbrev pub number_of : ℕ → List RecBlock → Option ℕ
-number_of id [] = None
-number_of id (block ∷ blocks) = if block.id == id then Some block.block else number_of id blocks
 
 -- an update: block 1 has the old version, where that is in another block than the new one
 unfoldable pub update : Rec → RecBlock → ℕ → ℕ → ℕ → ℕ → ℕ → Option ℕ → Option ℕ → List Item → Result (List Item) BlockRefusal

@@ -4,3 +4,4 @@ pub mod Redone
 pub mod Laws
 pub mod After
 pub mod TupleHeads
+pub mod OneBlock

@@ -3,9 +3,7 @@
 use Rattle.std.specs.Prelude.{◌≡◌, ◌⊎◌, ℕ, take, ◌==◌, Bool, false, not, ◌&&◌, ◌||◌, nat_le, nat_lt, List, [], ◌∷◌, Option, Some, None, is_some, position, slice_get, Result, Ok, Err, IsOk, if◌then◌else◌}
 use Rattle.pg_types.specs.declared.names.Tag.{Tag}
 use Rattle.pg_types.specs.declared.names.Locator.{Locator}
-use Rattle.heap_page.specs.Item.{Item}
-use Rattle.heap_page.specs.Page.{lsn_of, items_of, is_page}
-use Rattle.page_store.specs.Content.{Blocks, zeros, is_at}
+use Rattle.page_store.specs.Content.{zeros, is_at}
 use Rattle.wal_bodies.specs.declared.types.Rec.{Rec}
 use Rattle.wal_bodies.specs.declared.types.RecBlock.{RecBlock}
 use Rattle.wal_bodies.specs.HeapKinds.{same_locator}
@@ -81,7 +79,7 @@ table_of known locator = position (λ described. same_locator described locator)
 -- the blocks, where the change is not refused
 abbrev pub view_by : Rec → RecBlock → View → Tag → Result Seen BlockRefusal → Result View RedoFault
 view_by rec block view tag (Ok left) = Ok (view_with rec block view tag left)
-view_by rec block view tag (Err refusal) = Err (fault_at rec block refusal)
+view_by rec block view tag (Err refusal) = Err (fault_at block refusal)
 
 -- one block of the record; a block of another table is passed over
 abbrev pub redone_in : Rec → RecBlock → View → Option ℕ → Result View RedoFault
@@ -123,9 +121,9 @@ seen_outcome bytes (Ok done) = Ok (seen (Some bytes))
 seen_outcome bytes (Err refusal) = Err (refusal_of refusal)
 
 -- the fault of a block that is refused
-abbrev pub fault_by : {A : Type 0} → Rec → RecBlock → Result A BlockRefusal → Result A RedoFault
-fault_by rec block (Ok x) = Ok x
-fault_by rec block (Err refusal) = Err (fault_at rec block refusal)
+abbrev pub fault_by : {A : Type 0} → RecBlock → Result A BlockRefusal → Result A RedoFault
+fault_by block (Ok x) = Ok x
+fault_by block (Err refusal) = Err (fault_at block refusal)
 
 -- a page, where its change was not refused
 abbrev pub fault_outcome : List ℕ → Result (Unit {0}) RedoFault → Result Seen RedoFault

@@ -5,7 +5,6 @@ use Rattle.heap_page.specs.Item.{Item}
 use Rattle.heap_page.specs.Page.{items_of}
 use Rattle.page_store.specs.declared.pool.PoolFault.{PoolFault}
 use Rattle.page_store.specs.declared.pool.PoolFault.TheVariants.{Missing, BadPage as BrokenPage, Memory as NoRoom}
-use Rattle.wal_bodies.specs.declared.types.Rec.{Rec}
 use Rattle.wal_bodies.specs.declared.types.RecBlock.{RecBlock}
 use Rattle.heap_redo.specs.After.{BlockRefusal, no_page, no_tuple, page_full, bad_page, Content, page}
 use Rattle.heap_redo.specs.declared.fault.BlockFault.{BlockFault}
@@ -24,18 +23,18 @@ refusal_of BadPage = bad_page
 abbrev pub place_in : RecBlock → ℕ → Place
 place_in block line = record { block = block.block; line = line }
 
--- the fault of a record that is refused at this block: where the record begins, and the place
-unfoldable pub fault_at : Rec → RecBlock → BlockRefusal → RedoFault
-fault_at rec block no_page = PageMissing rec.start (place_in block 0)
-fault_at rec block (no_tuple line) = NoTupleAt rec.start (place_in block line)
-fault_at rec block (page_full line) = PageFullAt rec.start (place_in block line)
-fault_at rec block bad_page = BadPageAt rec.start (place_in block 0)
+-- the fault of a record that is refused at this block: the place
+unfoldable pub fault_at : RecBlock → BlockRefusal → RedoFault
+fault_at block no_page = PageMissing (place_in block 0)
+fault_at block (no_tuple line) = NoTupleAt (place_in block line)
+fault_at block (page_full line) = PageFullAt (place_in block line)
+fault_at block bad_page = BadPageAt (place_in block 0)
 
 -- the fault of a record whose block the pool does not lend
-abbrev pub pool_fault_at : Rec → RecBlock → PoolFault → RedoFault
-pool_fault_at rec block Missing = fault_at rec block no_page
-pool_fault_at rec block BrokenPage = fault_at rec block bad_page
-pool_fault_at rec block NoRoom = Memory
+abbrev pub pool_fault_at : RecBlock → PoolFault → RedoFault
+pool_fault_at block Missing = fault_at block no_page
+pool_fault_at block BrokenPage = fault_at block bad_page
+pool_fault_at block NoRoom = Memory
 
 -- the items that a change leaves, if it is not refused
 abbrev pub outcome : List Item → Result (Unit {0}) BlockFault → Result (List Item) BlockRefusal

@@ -1,7 +1,8 @@
-ghost use Rattle.std.specs.Prelude.{◌≡◌, ◌<◌, [], true, false, is_some, None, Some, OnErr};
+ghost use Rattle.std.specs.Prelude.{◌≡◌, [], true, false, is_some, None, Some, OnErr};
 ghost use Rattle.heap_page.specs.Page.{items_of};
 ghost use Rattle.heap_redo.specs.After.{applied, is_images};
 ghost use Rattle.page_store.specs.Seen.{Seen, seen};
+ghost use Rattle.heap_redo.specs.OneBlock.{IsChanged};
 ghost use Rattle.heap_redo.specs.Redone.{is_anew, is_left, redone_block, seen_outcome};
 
 use crate::change::change;
@@ -48,8 +49,7 @@ pub fn anew(page: &mut HeapPage, rec: &Rec<'_>, block: &RecBlock<'_>) -> Result<
     requires items { items_of page.old ≡ [] }
     requires plain { applied block.now.image ≡ None }
     requires anew { is_anew block.now ≡ true }
-    requires left { is_left rec.now block.now ≡ false }
-    requires block { block.now.block < 4294967295 }
+    requires changes { IsChanged rec.now block.now }
     ensures { (before : Seen) → seen_outcome page.new result ≡ redone_block rec.now block.now before }
 {
     change(page, rec, block)?;
@@ -61,8 +61,7 @@ pub fn anew(page: &mut HeapPage, rec: &Rec<'_>, block: &RecBlock<'_>) -> Result<
 /// stays as it is.
 pub fn changed(page: &mut HeapPage, rec: &Rec<'_>, block: &RecBlock<'_>) -> Result<(), BlockFault>
     requires anew { is_anew block.now ≡ false }
-    requires left { is_left rec.now block.now ≡ false }
-    requires block { block.now.block < 4294967295 }
+    requires changes { IsChanged rec.now block.now }
     ensures answer { seen_outcome page.new result ≡ redone_block rec.now block.now (seen (Some page.old)) }
     ensures err { OnErr result (page.new ≡ page.old) }
 {

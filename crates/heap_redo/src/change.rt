@@ -4,8 +4,9 @@ ghost use Rattle.heap_redo.specs.After.{changed};
 ghost use Rattle.heap_redo.specs.Refused.{outcome};
 
 use crate::fault::BlockFault;
+use crate::head::Versions;
 use crate::line::{confirm, delete, lock, lock_updated};
-use crate::update::{Versions, update};
+use crate::update::update;
 use crate::version::{insert, put_listed};
 use heap_page::HeapPage;
 use wal_bodies::{Rec, RecBlock, RecKind};

@@ -5,26 +5,25 @@ ghost use Rattle.heap_redo.specs.Refused.{refusal_of, fault_at, pool_fault_at};
 
 use heap_page::PageError;
 use page_store::PoolFault;
-use pg_types::{Lsn, Place};
+use pg_types::Place;
 use thiserror::Error;
-use wal_bodies::{Rec, RecBlock};
+use wal_bodies::RecBlock;
 
-/// Why a record is not applied. The position is where the record begins; the place is the block, and
-/// the line where there is one, else line 0.
+/// Why a record is not applied. The place is the block, and the line where there is one, else line 0.
 #[derive(Clone, Copy, Debug, PartialEq, Eq, Error)]
 pub enum RedoFault {
     /// The table does not have the block.
     #[error("the block is missing")]
-    PageMissing { lsn: Lsn, place: Place },
+    PageMissing { place: Place },
     /// A line that is changed has no tuple, or one where a tuple goes is not free.
     #[error("the line is not as the record has it")]
-    NoTuple { lsn: Lsn, place: Place },
+    NoTuple { place: Place },
     /// The page has no room for a tuple.
     #[error("the page is full")]
-    PageFull { lsn: Lsn, place: Place },
+    PageFull { place: Place },
     /// The page breaks the page rule, or would after the change.
     #[error("the block is no page")]
-    BadPage { lsn: Lsn, place: Place },
+    BadPage { place: Place },
     #[error("out of memory")]
     Memory,
 }
@@ -51,38 +50,33 @@ pub fn at_line(error: PageError, line: u16) -> BlockFault
 
 /// The fault of a record that is refused at this block.
 #[tactic(auto, unfolding(crate::specs::Refused::fault_at))]
-pub fn fault_at(rec: &Rec<'_>, block: &RecBlock<'_>, refusal: BlockFault) -> RedoFault
-    ensures { result ≡ fault_at rec.now block.now (refusal_of refusal) }
+pub fn fault_at(block: &RecBlock<'_>, refusal: BlockFault) -> RedoFault
+    ensures { result ≡ fault_at block.now (refusal_of refusal) }
 {
-    let lsn = rec.start;
     let block = block.block;
     match refusal {
         BlockFault::NoPage => RedoFault::PageMissing {
-            lsn,
             place: Place { block, line: 0 },
         },
         BlockFault::NoTuple(line) => RedoFault::NoTuple {
-            lsn,
             place: Place { block, line },
         },
         BlockFault::PageFull(line) => RedoFault::PageFull {
-            lsn,
             place: Place { block, line },
         },
         BlockFault::BadPage => RedoFault::BadPage {
-            lsn,
             place: Place { block, line: 0 },
         },
     }
 }
 
 /// The fault of a record whose block the pool does not lend.
-pub fn pool_fault(rec: &Rec<'_>, block: &RecBlock<'_>, fault: PoolFault) -> RedoFault
-    ensures { result ≡ pool_fault_at rec.now block.now fault }
+pub fn pool_fault(block: &RecBlock<'_>, fault: PoolFault) -> RedoFault
+    ensures { result ≡ pool_fault_at block.now fault }
 {
     match fault {
-        PoolFault::Missing => fault_at(rec, block, BlockFault::NoPage),
-        PoolFault::BadPage => fault_at(rec, block, BlockFault::BadPage),
+        PoolFault::Missing => fault_at(block, BlockFault::NoPage),
+        PoolFault::BadPage => fault_at(block, BlockFault::BadPage),
         PoolFault::Memory => RedoFault::Memory,
     }
 }

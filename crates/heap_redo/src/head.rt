@@ -10,6 +10,18 @@ use heap_tuple::is_lock_only;
 use pg_types::{u16_at, u32_at};
 use wal_bodies::IS_MULTI;
 
+/// What an update says of its two versions.
+#[derive(Clone, Copy)]
+pub struct Versions {
+    pub old_xmax: u64,
+    pub old_line: u16,
+    pub old_bits: u8,
+    pub new_xmax: u64,
+    pub new_line: u16,
+    /// The new version is heap-only.
+    pub is_hot: bool,
+}
+
 /// The fields of a tuple's first 23 bytes (`HeapTupleHeaderData`, htup_details.h).
 #[derive(Clone, Copy)]
 pub struct Header {
@@ -163,10 +175,13 @@ impl Header {
 
     /// The header of an updated tuple, whose next version is at this place.
     #[tactic(auto, unfolding(crate::specs::TupleHeads::replaced))]
-    pub fn replaced(self, xmax: u64, bits: u8, is_hot: bool, block: u32, line: u16) -> Header
-        ensures { head_in result ≡ replaced xmax bits is_hot block line (head_in self) }
+    pub fn replaced(self, versions: Versions, block: u32) -> Header
+        ensures { head_in result
+            ≡ replaced versions.old_xmax versions.old_bits versions.is_hot block versions.new_line (head_in self) }
     {
-        self.marked(xmax, bits).hot(is_hot).pointing_to(block, line)
+        self.marked(versions.old_xmax, versions.old_bits)
+            .hot(versions.is_hot)
+            .pointing_to(block, versions.new_line)
     }
 
     /// A tuple that is only locked has no next version.

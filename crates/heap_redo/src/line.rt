@@ -8,7 +8,7 @@ ghost use Rattle.heap_redo.specs.Heads.{head_in, headed};
 ghost use Rattle.heap_redo.specs.Refused.{refusal_of, outcome};
 
 use crate::fault::{BlockFault, at_line};
-use crate::head::Header;
+use crate::head::{Header, Versions};
 use heap_page::{HeapPage, Item};
 
 /// The header of the tuple of a line, which is refused where it has none.
@@ -63,48 +63,33 @@ pub fn delete(
     put_header(page, line, header.deleted(xmax, bits, flags, block, line))
 }
 
-/// The tuple of a line points to a newer version at this place.
+/// The old version points to the new one in this block.
 #[tactic(auto, unfolding(crate::specs::After::change_head, crate::specs::After::update_old))]
-pub fn update_old(
-    page: &mut HeapPage,
-    line: u16,
-    xmax: u64,
-    bits: u8,
-    is_hot: bool,
-    new_block: u32,
-    new_line: u16,
-) -> Result<(), BlockFault>
+pub fn mark_old(page: &mut HeapPage, versions: Versions, new_block: u32) -> Result<(), BlockFault>
     ensures answer { outcome (items_of page.new) result
-        ≡ update_old is_hot xmax line bits new_block new_line (items_of page.old) }
+        ≡ update_old versions.is_hot versions.old_xmax versions.old_line versions.old_bits new_block versions.new_line (items_of page.old) }
     ensures err { OnErr result (page.new ≡ page.old) }
 {
-    let header = header_at(page, line)?;
+    let header = header_at(page, versions.old_line)?;
     put_header(
         page,
-        line,
-        header.replaced(xmax, bits, is_hot, new_block, new_line),
+        versions.old_line,
+        header.replaced(versions, new_block),
     )
 }
 
-/// What `update_old` answers. It changes nothing.
+/// What `mark_old` answers. It changes nothing.
 #[tactic(auto, unfolding(crate::specs::After::change_head, crate::specs::After::update_old))]
-pub fn check_old(
-    page: &HeapPage,
-    line: u16,
-    xmax: u64,
-    bits: u8,
-    is_hot: bool,
-    new_block: u32,
-    new_line: u16,
-) -> Result<(), BlockFault>
-    ensures { outcome (headed (items_of page.now) line (λ head. replaced xmax bits is_hot new_block new_line head)) result
-        ≡ update_old is_hot xmax line bits new_block new_line (items_of page.now) }
+pub fn check_mark(page: &HeapPage, versions: Versions, new_block: u32) -> Result<(), BlockFault>
+    ensures { outcome (headed (items_of page.now) versions.old_line
+        (λ head. replaced versions.old_xmax versions.old_bits versions.is_hot new_block versions.new_line head)) result
+        ≡ update_old versions.is_hot versions.old_xmax versions.old_line versions.old_bits new_block versions.new_line (items_of page.now) }
 {
-    let header = header_at(page, line)?;
+    let header = header_at(page, versions.old_line)?;
     check_header(
         page,
-        line,
-        header.replaced(xmax, bits, is_hot, new_block, new_line),
+        versions.old_line,
+        header.replaced(versions, new_block),
     )
 }
 

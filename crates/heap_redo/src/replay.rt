@@ -1,8 +1,9 @@
-ghost use Rattle.std.specs.Prelude.{◌≡◌, ◌<◌, ◌≤◌, ◌^◌, true, false, length, None, Some, Err, IfSome, OnErr};
+ghost use Rattle.std.specs.Prelude.{◌≡◌, ◌<◌, ◌≤◌, ◌^◌, true, false, length, None, Some, IfSome, OnErr};
 ghost use Rattle.page_store.specs.Content.{content, table_count};
 ghost use Rattle.heap_redo.specs.After.{applied};
 ghost use Rattle.page_store.specs.Seen.{seen, view_of};
-ghost use Rattle.heap_redo.specs.Redone.{fault_by, fault_outcome, is_anew, is_left, redone_block, view_by, table_of, redone_at, view_outcome, Follows, Stands};
+ghost use Rattle.heap_redo.specs.OneBlock.{IsChanged, IsRedone};
+ghost use Rattle.heap_redo.specs.Redone.{fault_by, fault_outcome, is_anew, redone_block, table_of, redone_in, redone_at, view_outcome, Stands};
 ghost use Rattle.table_schema.specs.Description.{locators};
 
 use crate::block::{anew, changed, is_anew, is_left};
@@ -24,32 +25,33 @@ fn table_of(known: &[Locator], locator: Locator) -> Option<usize>
 /// Changes the page of a block, or answers why not.
 fn change_page(page: &mut HeapPage, rec: &Rec<'_>, block: &RecBlock<'_>) -> Result<(), RedoFault>
     requires anew { is_anew block.now ≡ false }
-    requires left { is_left rec.now block.now ≡ false }
-    requires block { block.now.block < 4294967295 }
-    ensures answer { fault_outcome page.new result ≡ fault_by rec.now block.now (redone_block rec.now block.now (seen (Some page.old))) }
+    requires changes { IsChanged rec.now block.now }
+    ensures answer { fault_outcome page.new result ≡ fault_by block.now (redone_block rec.now block.now (seen (Some page.old))) }
     ensures err { OnErr result (page.new ≡ page.old) }
 {
     match changed(page, rec, block) {
         Ok(()) => Ok(()),
-        Err(refusal) => Err(fault_at(rec, block, refusal)),
+        Err(refusal) => Err(fault_at(block, refusal)),
     }
 }
 
 /// Changes a block that is there.
-fn change(pool: &mut Pool, tag: Tag, rec: &Rec<'_>, block: &RecBlock<'_>) -> Result<(), RedoFault>
-    requires table { tag.table < table_count pool.old }
-    requires tag { tag.block ≡ block.now.block }
+fn change(pool: &mut Pool, table: u16, rec: &Rec<'_>, block: &RecBlock<'_>) -> Result<(), RedoFault>
+    requires table { table < table_count pool.old }
     requires anew { is_anew block.now ≡ false }
-    requires left { is_left rec.now block.now ≡ false }
-    requires block { block.now.block < 4294967295 }
+    requires changes { IsChanged rec.now block.now }
     ensures answer { view_outcome (view_of (content pool.new)) result
-        ≡ view_by rec.now block.now (view_of (content pool.old)) tag (redone_block rec.now block.now (seen (content pool.old tag.table tag.block))) }
+        ≡ redone_in rec.now block.now (view_of (content pool.old)) (Some table) }
     ensures err { OnErr result (content pool.new ≡ content pool.old) }
     ensures tables { table_count pool.new ≡ table_count pool.old }
 {
+    let tag = Tag {
+        table,
+        block: block.block,
+    };
     match pool.page(tag) {
         Ok(page) => change_page(page, rec, block),
-        Err(fault) => Err(pool_fault(rec, block, fault)),
+        Err(fault) => Err(pool_fault(block, fault)),
     }
 }
 
@@ -57,81 +59,83 @@ fn change(pool: &mut Pool, tag: Tag, rec: &Rec<'_>, block: &RecBlock<'_>) -> Res
 /// tested before.
 fn restore(
     pool: &mut Pool,
-    tag: Tag,
+    table: u16,
     rec: &Rec<'_>,
     block: &RecBlock<'_>,
     image: &RecImage<'_>,
 ) -> Result<(), RedoFault>
-    requires table { tag.table < table_count pool.old }
-    requires tag { tag.block ≡ block.now.block }
+    requires table { table < table_count pool.old }
     requires image { applied block.now.image ≡ Some image.now }
     requires block { block.now.block < 4294967295 }
-    ensures answer { Follows (view_of (content pool.new)) result
-        (view_by rec.now block.now (view_of (content pool.old)) tag (redone_block rec.now block.now (seen (content pool.old tag.table tag.block)))) }
-    ensures err { OnErr result (content pool.new ≡ content pool.old) }
-    ensures tables { table_count pool.new ≡ table_count pool.old }
+    ensures { IsRedone pool.old pool.new result
+        (redone_in rec.now block.now (view_of (content pool.old)) (Some table)) }
 {
     let view = PageImage {
         hole_at: image.hole_at,
         bytes: image.bytes.as_slice(),
     };
     if !shows_page(&view) {
-        return Err(fault_at(rec, block, BlockFault::BadPage));
+        return Err(fault_at(block, BlockFault::BadPage));
     }
+    let tag = Tag {
+        table,
+        block: block.block,
+    };
     match pool.fresh(tag) {
         Ok(page) => {
             page.restore(&view);
             page.set_lsn(rec.end);
             Ok(())
         }
-        Err(fault) => Err(pool_fault(rec, block, fault)),
+        Err(fault) => Err(pool_fault(block, fault)),
     }
 }
 
 /// Makes a block anew by the record's change of a page without items, whatever stands there.
-fn rebuild(pool: &mut Pool, tag: Tag, rec: &Rec<'_>, block: &RecBlock<'_>) -> Result<(), RedoFault>
-    requires table { tag.table < table_count pool.old }
-    requires tag { tag.block ≡ block.now.block }
+fn rebuild(
+    pool: &mut Pool,
+    table: u16,
+    rec: &Rec<'_>,
+    block: &RecBlock<'_>,
+) -> Result<(), RedoFault>
+    requires table { table < table_count pool.old }
     requires plain { applied block.now.image ≡ None }
     requires anew { is_anew block.now ≡ true }
-    requires left { is_left rec.now block.now ≡ false }
-    requires block { block.now.block < 4294967295 }
-    ensures answer { Follows (view_of (content pool.new)) result
-        (view_by rec.now block.now (view_of (content pool.old)) tag (redone_block rec.now block.now (seen (content pool.old tag.table tag.block)))) }
-    ensures err { OnErr result (content pool.new ≡ content pool.old) }
-    ensures tables { table_count pool.new ≡ table_count pool.old }
+    requires changes { IsChanged rec.now block.now }
+    ensures { IsRedone pool.old pool.new result
+        (redone_in rec.now block.now (view_of (content pool.old)) (Some table)) }
 {
     let mut page = HeapPage::new();
     if let Err(refusal) = anew(&mut page, rec, block) {
-        return Err(fault_at(rec, block, refusal));
+        return Err(fault_at(block, refusal));
     }
+    let tag = Tag {
+        table,
+        block: block.block,
+    };
     match pool.fresh(tag) {
         Ok(fresh) => {
             *fresh = page;
             Ok(())
         }
-        Err(fault) => Err(pool_fault(rec, block, fault)),
+        Err(fault) => Err(pool_fault(block, fault)),
     }
 }
 
 /// Makes a block anew, whatever stands there: as its image shows, if one is restored.
-fn remake(pool: &mut Pool, tag: Tag, rec: &Rec<'_>, block: &RecBlock<'_>) -> Result<(), RedoFault>
-    requires table { tag.table < table_count pool.old }
-    requires tag { tag.block ≡ block.now.block }
+fn remake(pool: &mut Pool, table: u16, rec: &Rec<'_>, block: &RecBlock<'_>) -> Result<(), RedoFault>
+    requires table { table < table_count pool.old }
     requires anew { is_anew block.now ≡ true }
-    requires left { is_left rec.now block.now ≡ false }
-    requires block { block.now.block < 4294967295 }
-    ensures answer { Follows (view_of (content pool.new)) result
-        (view_by rec.now block.now (view_of (content pool.old)) tag (redone_block rec.now block.now (seen (content pool.old tag.table tag.block)))) }
-    ensures err { OnErr result (content pool.new ≡ content pool.old) }
-    ensures tables { table_count pool.new ≡ table_count pool.old }
+    requires changes { IsChanged rec.now block.now }
+    ensures { IsRedone pool.old pool.new result
+        (redone_in rec.now block.now (view_of (content pool.old)) (Some table)) }
 {
     if let Some(image) = &block.image {
         if image.apply {
-            return restore(pool, tag, rec, block, image);
+            return restore(pool, table, rec, block, image);
         }
     }
-    rebuild(pool, tag, rec, block)
+    rebuild(pool, table, rec, block)
 }
 
 /// One block of a record. A block of another table is passed over.
@@ -143,27 +147,21 @@ fn redo_block(
 ) -> Result<(), RedoFault>
     requires tables { length known.now ≤ table_count pool.old }
     requires few { length known.now < 2 ^ 16 }
-    ensures answer { Follows (view_of (content pool.new)) result (redone_at rec.now known.now block.now (view_of (content pool.old))) }
-    ensures err { OnErr result (content pool.new ≡ content pool.old) }
-    ensures tables { table_count pool.new ≡ table_count pool.old }
+    ensures { IsRedone pool.old pool.new result (redone_at rec.now known.now block.now (view_of (content pool.old))) }
 {
     let Some(table) = table_of(known, block.locator) else {
         return Ok(());
     };
     if block.block == 4_294_967_295 {
-        return Err(fault_at(rec, block, BlockFault::NoPage));
+        return Err(fault_at(block, BlockFault::NoPage));
     }
     if is_left(rec, block) {
         return Ok(());
     }
-    let tag = Tag {
-        table: table as u16,
-        block: block.block,
-    };
     if is_anew(block) {
-        remake(pool, tag, rec, block)
+        remake(pool, table as u16, rec, block)
     } else {
-        change(pool, tag, rec, block)
+        change(pool, table as u16, rec, block)
     }
 }
 
@@ -188,7 +186,7 @@ fn redo_blocks(rec: &Rec<'_>, known: &[Locator], pool: &mut Pool) -> Result<(), 
 /// record's end. Afterwards the page's position is the record's end.
 ///
 /// # Errors
-/// Each fault but `Memory` names the record's start and the place. Each block is then as before the
+/// Each fault but `Memory` names the place. Each block is then as before the
 /// record or after it, the blocks up to one after and the others before, and the record is refused again.
 /// After `Memory` too, and the block at which it came is not refused; a repeated call then leaves what one
 /// call leaves.

@@ -7,22 +7,11 @@ ghost use Rattle.heap_redo.specs.Heads.{headed};
 ghost use Rattle.heap_redo.specs.TupleHeads.{replaced};
 
 use crate::fault::BlockFault;
-use crate::line::{check_old, update_old};
+use crate::head::Versions;
+use crate::line::{check_mark, mark_old};
 use crate::version::{check_new, join, put_new, user_data};
 use heap_page::HeapPage;
-use wal_bodies::{NewTuple, Rec, RecBlock, RecBlocks};
-
-/// What an update says of its two versions.
-#[derive(Clone, Copy)]
-pub struct Versions {
-    pub old_xmax: u64,
-    pub old_line: u16,
-    pub old_bits: u8,
-    pub new_xmax: u64,
-    pub new_line: u16,
-    /// The new version is heap-only.
-    pub is_hot: bool,
-}
+use wal_bodies::{NewTuple, Rec, RecBlock};
 
 /// What stands behind the header of a new version of the tuple of a line, as far as it fits, and its
 /// length. `None` exactly where that tuple's values are shorter than the parts that are used of them.
@@ -106,42 +95,6 @@ fn replace(
     put_new(page, xid, xmax, block.block, line, tuple, rest)
 }
 
-/// What `mark_old` answers. It changes nothing.
-#[tactic(auto, unfolding(crate::specs::After::update_old))]
-fn check_mark(page: &HeapPage, versions: Versions, new_block: u32) -> Result<(), BlockFault>
-    ensures { outcome (headed (items_of page.now) versions.old_line
-        (λ head. replaced versions.old_xmax versions.old_bits versions.is_hot new_block versions.new_line head)) result
-        ≡ update_old versions.is_hot versions.old_xmax versions.old_line versions.old_bits new_block versions.new_line (items_of page.now) }
-{
-    check_old(
-        page,
-        versions.old_line,
-        versions.old_xmax,
-        versions.old_bits,
-        versions.is_hot,
-        new_block,
-        versions.new_line,
-    )
-}
-
-/// The old version points to the new one in this block.
-#[tactic(auto, unfolding(crate::specs::After::update_old))]
-fn mark_old(page: &mut HeapPage, versions: Versions, new_block: u32) -> Result<(), BlockFault>
-    ensures answer { outcome (items_of page.new) result
-        ≡ update_old versions.is_hot versions.old_xmax versions.old_line versions.old_bits new_block versions.new_line (items_of page.old) }
-    ensures err { OnErr result (page.new ≡ page.old) }
-{
-    update_old(
-        page,
-        versions.old_line,
-        versions.old_xmax,
-        versions.old_bits,
-        versions.is_hot,
-        new_block,
-        versions.new_line,
-    )
-}
-
 /// The new version, if the record has it, goes to its line of a block without the old one.
 fn put_version(
     page: &mut HeapPage,
@@ -167,18 +120,6 @@ fn put_version(
     )
 }
 
-/// The number of the block with this id, if the record has one.
-fn number_of(id: u8, blocks: &RecBlocks<'_>) -> Option<u32>
-    ensures { result ≡ number_of id blocks.now }
-{
-    for block in blocks.again() {
-        if block.id == id {
-            return Some(block.block);
-        }
-    }
-    None
-}
-
 /// An update: block 1 has the old version, where that is in another block than the new one.
 #[tactic(auto, unfolding(crate::specs::After::update))]
 pub fn update(
@@ -193,11 +134,10 @@ pub fn update(
         (number_of 0 rec.now.blocks) (number_of 1 rec.now.blocks) (items_of page.old) }
     ensures err { OnErr result (page.new ≡ page.old) }
 {
-    let blocks = &rec.blocks;
-    let Some(new_block) = number_of(0, blocks) else {
+    let Some(new_block) = rec.blocks.number(0) else {
         return Ok(());
     };
-    if number_of(1, blocks).is_none() {
+    if rec.blocks.number(1).is_none() {
         return update_within(page, rec, block, versions);
     }
     if block.id == 0 {

@@ -1,3 +1,4 @@
+pub mod Deduped
 pub mod Ordered
 pub mod Slotted
 pub mod Steps

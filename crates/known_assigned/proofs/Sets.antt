@@ -146,14 +146,16 @@ ordered-live_ids (s ∷ rest) h =
       | false ↦ ordered-live_ids rest parts.1
     ]
 
--- places that were put in rising order hold the ids of those before, each once
-pub live_ids-sorted : (slots sorted : List Slot) → IsPermutation slots sorted → is_rising sorted ≡ true → live_ids sorted ≡ with_ids (live_ids slots) []
-live_ids-sorted slots sorted moved h =
-    same_set (live_ids sorted) (with_ids (live_ids slots) []) (ordered-live_ids sorted h) (ordered-with_ids (live_ids slots) [] refl)
-    (λ y. is_among-copies y sorted
-    ∙ ap (nat_lt 0) (sum_by-IsPermutation (copies y) slots sorted moved)
-    ∙ sym (is_among-copies y slots)
-    ∙ sym (is_among-with_ids y (live_ids slots) [] ∙ or_false (is_among y (live_ids slots))))
+-- places that were put in another order hold the ids of those before
+pub is_among-sorted : (y : ℕ) (slots sorted : List Slot) → IsPermutation slots sorted → is_among y (live_ids sorted) ≡ is_among y (live_ids slots)
+is_among-sorted y slots sorted moved =
+    is_among-copies y sorted ∙ ap (nat_lt 0) (sum_by-IsPermutation (copies y) slots sorted moved) ∙ sym (is_among-copies y slots)
+
+-- rising places with the ids of these hold each of them once
+pub live_ids-from : (slots kept : List Slot) → is_rising kept ≡ true → ((y : ℕ) → is_among y (live_ids kept) ≡ is_among y (live_ids slots)) → live_ids kept ≡ with_ids (live_ids slots) []
+live_ids-from slots kept h among =
+    same_set (live_ids kept) (with_ids (live_ids slots) []) (ordered-live_ids kept h) (ordered-with_ids (live_ids slots) [] refl)
+    (λ y. among y ∙ sym (is_among-with_ids y (live_ids slots) [] ∙ or_false (is_among y (live_ids slots))))
   where
     or_false : (b : Bool) → (b || false) ≡ b
     or_false true = refl

@@ -1,5 +1,4 @@
 ghost use Rattle.std.specs.Prelude.{◌≡◌, ◌≢◌, ℕ, ◌+◌, ◌*◌, ◌-◌, ◌≤◌, ◌<◌, not, true, false, if◌then◌else◌, IfErr, IfOk, OnErr, OnOk, [], ◌∷◌, ◌++◌, filter, length, nat_le, nat_lt, slice_get, take, drop, vec_capacity, vec_len};
-ghost use Rattle.std.specs.Bool.{OnFalse, OnTrue};
 ghost use Rattle.std.specs.List.{list_all};
 ghost use Rattle.std.specs.List.Sorted.{IsStrictlyIncreasing};
 ghost use Rattle.known_assigned.specs.Ids.{ids_above, is_among, minus, numbers, with_id, with_ids, without};
@@ -198,23 +197,16 @@ impl RunningSet {
         if len == 0 { 0 } else { self.slots[len - 1].xid }
     }
 
-    /// Takes all ids out, and puts these in, each once. They are sorted in place; a list that names an
-    /// id twice is put in one id after another.
+    /// Takes all ids out, and puts these in, each once. They are sorted in place.
     pub(crate) fn replace(&mut self, xids: &[Xid])
         requires { length xids.now ≤ length self.old.xids + self.old.spare }
         ensures xids { self.new.xids ≡ with_ids (numbers xids.now) [] }
         ensures spare { self.old.spare ≤ self.new.spare + length xids.now }
     {
         self.slots.clear();
-        self.first = 0;
+        fill(&mut self.slots, xids);
+        self.first = passed(&mut self.slots, 0, 0);
         self.marked = 0;
-        if fill(&mut self.slots, xids) {
-            self.first = passed(&mut self.slots, 0, 0);
-        } else {
-            for xid in xids {
-                self.add(xid.0);
-            }
-        }
     }
 
     /// A copy of the ids in rising order, in time in proportion to the places from the least one on.
@@ -278,16 +270,14 @@ fn find(slots: &[Slot], xid: u64) -> Result<usize, usize>
     }
 }
 
-/// Puts the ids in, sorted, and tells whether that is done; it is not where one is named twice.
-fn fill(slots: &mut Vec<Slot>, xids: &[Xid]) -> bool
+/// Puts the ids in, sorted, each once.
+fn fill(slots: &mut Vec<Slot>, xids: &[Xid])
     requires empty { slots.old.items ≡ [] }
     requires room { length xids.now ≤ vec_capacity slots.old }
-    ensures rising { OnTrue result (is_rising slots.new.items ≡ true) }
-    ensures ids { OnTrue result (live_ids slots.new.items ≡ with_ids (numbers xids.now) []) }
-    ensures live { OnTrue result (length slots.new.items ≤ length (live_ids slots.new.items)) }
-    ensures left { OnFalse result (slots.new.items ≡ []) }
+    ensures rising { is_rising slots.new.items ≡ true }
+    ensures ids { live_ids slots.new.items ≡ with_ids (numbers xids.now) [] }
+    ensures live { length slots.new.items ≤ length (live_ids slots.new.items) }
     ensures room { vec_capacity slots.old ≤ (vec_capacity slots.new - vec_len slots.new) + length xids.now }
-    ensures capacity { vec_capacity slots.old ≤ vec_capacity slots.new }
 {
     for xid in xids {
         let slot = Slot {
@@ -299,24 +289,7 @@ fn fill(slots: &mut Vec<Slot>, xids: &[Xid]) -> bool
         }
     }
     slots.sort_unstable_by_key(|slot| slot.xid);
-    if rises(slots.as_slice()) {
-        true
-    } else {
-        slots.clear();
-        false
-    }
-}
-
-/// Whether each id is below the next.
-fn rises(slots: &[Slot]) -> bool
-    ensures { OnTrue result (is_rising slots.now ≡ true) }
-{
-    for i in 1..slots.len() {
-        if slots[i - 1].xid >= slots[i].xid {
-            return false;
-        }
-    }
-    true
+    slots.dedup_by_key(|slot| slot.xid);
 }
 
 /// How many places have an id below this one. Where all have, it is seen at once, else by halving.

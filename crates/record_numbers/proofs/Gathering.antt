@@ -7,10 +7,9 @@ use Rattle.wal_record.specs.declared.types.PrevRule.{PrevRule}
 use Rattle.wal_record.specs.declared.types.RecordFault.{RecordFault}
 use Rattle.wal_record.specs.Decoded.{decoded, head_of}
 use Rattle.wal_record.specs.Spelling.{AreBytes}
-use Rattle.wal_reader.specs.declared.types.Halt.{Halt}
-use Rattle.wal_reader.specs.declared.types.Halt.TheVariants.{Stops, GivesUp}
 use Rattle.wal_reader.specs.declared.types.NoRecord.TheVariants.{End, Compressed, TooLong}
 use Rattle.wal_reader.specs.declared.types.EndWhy.TheVariants.{Layout}
+use Rattle.wal_reader.specs.Halt.{Halt, Stops, GivesUp}
 use Rattle.wal_reader.specs.Gathered.{◌>>=◌, gathered, one_less, place_at, told_at}
 use Rattle.wal_reader.specs.Step.{Entry, attempt, begun, begun_at, headed, in_place_of, length_in, overwrites, step, unless_faulty, unless_given_up}
 use Rattle.wal_reader.specs.Told.{Told}

@@ -1,4 +1,4 @@
 pub mod Places
 mod Prefixes
 mod WorkedIds
-mod WorkedLog
+pub mod WorkedLog

@@ -48,7 +48,7 @@ are_bytes (b ∷ bytes) h =
     All-cons (λ (byte : ℕ). byte < 256) b bytes (ltb-true b 256 low) (are_bytes bytes rest)
 
 -- a test holds of each
-all_true : (f : Rec → Bool) (log : List Rec) → list_all f log ≡ true → All (λ (rec : Rec). f rec ≡ true) log
+pub all_true : (f : Rec → Bool) (log : List Rec) → list_all f log ≡ true → All (λ (rec : Rec). f rec ≡ true) log
 all_true f [] h = All-nil (λ (rec : Rec). f rec ≡ true)
 all_true f (rec ∷ log) h =
     let (first, rest) = and_parts (f rec) (list_all f log) h in
@@ -98,7 +98,7 @@ not_gone : (table : Locator) (log : List Rec) → is_gone table log ≡ false
 not_gone table [] = refl
 not_gone table (rec ∷ log) = not_gone table log
 
-no_locks : (o : LogOrigin) (table : Locator) (older : List Rec) (rec : Rec) → LockRule o table older rec
+pub no_locks : (o : LogOrigin) (table : Locator) (older : List Rec) (rec : Rec) → LockRule o table older rec
 no_locks o table older rec =
     record {
       cut = λ blocks e. absurd (cc);
@@ -236,7 +236,7 @@ worked_legal_table : LegalTable worked_origin worked_log worked_table
 worked_legal_table = record { along = worked_along; renews = worked_renews }
 
 -- the blocks where redo is not refused
-answered_view : (r : Result View RedoFault) → is_ok r ≡ true → (view : View) × (r ≡ Ok view)
+pub answered_view : (r : Result View RedoFault) → is_ok r ≡ true → (view : View) × (r ≡ Ok view)
 answered_view (Ok view) h = (view, refl)
 answered_view (Err fault) h = absurd (false≢true h)
 

@@ -17,33 +17,33 @@ unfoldable pub since : ℕ → List Rec → List Rec
 since redo [] = []
 since redo (rec ∷ older) = if nat_lt rec.start.0 redo then [] else rec ∷ since redo older
 
-abbrev pub is_shutdown : Kind → Bool
-is_shutdown (Shutdown next) = true
-is_shutdown (Commit subs) = false
-is_shutdown (Abort subs) = false
-is_shutdown (Assignment top subs) = false
-is_shutdown (Running head xids) = false
-is_shutdown (Online redo next) = false
-is_shutdown Other = false
+abbrev pub is_shutdown_checkpoint : Kind → Bool
+is_shutdown_checkpoint (Shutdown next) = true
+is_shutdown_checkpoint (Commit subs) = false
+is_shutdown_checkpoint (Abort subs) = false
+is_shutdown_checkpoint (Assignment top subs) = false
+is_shutdown_checkpoint (Running head xids) = false
+is_shutdown_checkpoint (Online redo next) = false
+is_shutdown_checkpoint Other = false
 
-abbrev pub is_running : Kind → Bool
-is_running (Running head xids) = true
-is_running (Commit subs) = false
-is_running (Abort subs) = false
-is_running (Assignment top subs) = false
-is_running (Shutdown next) = false
-is_running (Online redo next) = false
-is_running Other = false
+abbrev pub is_running_record : Kind → Bool
+is_running_record (Running head xids) = true
+is_running_record (Commit subs) = false
+is_running_record (Abort subs) = false
+is_running_record (Assignment top subs) = false
+is_running_record (Shutdown next) = false
+is_running_record (Online redo next) = false
+is_running_record Other = false
 
 -- the records behind the last shutdown checkpoint
 unfoldable pub since_shutdown : List Rec → List Rec
 since_shutdown [] = []
-since_shutdown (rec ∷ older) = if is_shutdown (kind_of rec.head rec.kind) then [] else rec ∷ since_shutdown older
+since_shutdown (rec ∷ older) = if is_shutdown_checkpoint (kind_of rec.head rec.kind) then [] else rec ∷ since_shutdown older
 
 -- the log up to its last running record
 unfoldable pub up_to_running : List Rec → List Rec
 up_to_running [] = []
-up_to_running (rec ∷ older) = if is_running (kind_of rec.head rec.kind) then rec ∷ older else up_to_running older
+up_to_running (rec ∷ older) = if is_running_record (kind_of rec.head rec.kind) then rec ∷ older else up_to_running older
 
 -- a lock that a transaction holds, and the start of the record that says so
 pub record HeldLock : Type 0 where

@@ -69,27 +69,35 @@ abbrev pub second_tuple : NewTuple
 second_tuple =
     record { mask2 = 0x8002; mask = 0x2802; hoff = 24; prefix = 11; suffix = 6; rest = 0 ∷ 116 ∷ 119 ∷ 111 ∷ [] }
 
--- nothing runs as the log begins
-abbrev pub nothing_runs : Rec
-nothing_runs =
-    worked_record 0x2000028 0x2000060 0 8 0x10
-    (Running 0 0 false (record { 0 = 700 }) (record { 0 = 700 }) (record { 0 = 699 }) [])
+-- a running record from one position to the next where nothing runs, with this next id
+abbrev pub running_none : ℕ → ℕ → ℕ → Rec
+running_none start end next =
+    worked_record start end 0 8 0x10
+    (Running 0 0 false (record { 0 = next }) (record { 0 = next }) (record { 0 = next - 1 }) [])
     []
 
-abbrev pub online_checkpoint : Rec
-online_checkpoint =
-    worked_record 0x2000060 0x20000D8 0 0 0x10
+-- a checkpoint from one position to the next, with this info, redo position and next id
+abbrev pub checkpoint_at : ℕ → ℕ → ℕ → ℕ → ℕ → Rec
+checkpoint_at start end info redo next =
+    worked_record start end 0 0 info
     (Checkpoint
-    (record { 0 = 0x2000028 })
+    (record { 0 = redo })
     (record { 0 = 1 })
     (record { 0 = 1 })
     true
-    (record { 0 = 700 })
+    (record { 0 = next })
     1
     0
     1
-    (record { 0 = 700 }))
+    (record { 0 = next }))
     []
+
+-- nothing runs as the log begins
+abbrev pub nothing_runs : Rec
+nothing_runs = running_none 0x2000028 0x2000060 700
+
+abbrev pub online_checkpoint : Rec
+online_checkpoint = checkpoint_at 0x2000060 0x20000D8 0x10 0x2000028 700
 
 abbrev pub backup_end : Rec
 backup_end = worked_record 0x20000D8 0x2000100 0 0 0x50 (BackupEnd (record { 0 = 0x2000028 })) []

@@ -3,5 +3,6 @@ mod Found
 mod Permuted
 mod Places
 mod Rows
-mod SameRow
+pub mod SameRow
 mod Scanned
+mod Shown

@@ -7,28 +7,26 @@ use Rattle.pg_types.specs.declared.status.Unknown.{Unknown}
 use Rattle.heap_tuple.specs.declared.cell.Column.{Column}
 use Rattle.heap_page.specs.Item.{Item, unused}
 use Rattle.page_store.specs.Seen.{Seen, absent, bad_block, seen_page}
-use Rattle.wal_bodies.specs.declared.types.Rec.{Rec}
-use Rattle.row_model.specs.Origins.{LogOrigin, committed_in}
 use Rattle.row_model.specs.Versions.{Version, is_at, version_at}
-use Rattle.row_model.specs.Rows.{IsRows}
-use Rattle.row_model.specs.Multixacts.{multixacts}
-use Rattle.row_model.specs.Shows.{ShowsPlace, ShowsBlock}
-use Rattle.row_model.specs.Shown.{IsLost, ShowsTable, ShowsSeen}
-use Rattle.row_pages.specs.Pages.{is_row_in, rows_of_versions, SeesThem, AreScanned, ScanGivesRows}
+use Rattle.row_model.specs.Rows.{IsRows, is_row}
+use Rattle.row_model.specs.Multixacts.{Made}
+use Rattle.row_pages.specs.Pages.{AreScanned, ReadsPlace, ReadsSeen, ReadsTable, ScanGivesRead, rows_of_versions}
 use Rattle.row_pages.proofs.Each.{Each, Stands, each-weaker}
 use Rattle.row_pages.proofs.Places.{kept, first_of_two, at_head, at_none, version_at-append, version_at-filter, none_where, found_at, found_holds, from_place, off_block, off_line, apart-filter}
 use Rattle.row_pages.proofs.Permuted.{HaveSame, permuted}
 use Rattle.row_pages.proofs.Found.{row_in, rows_on, rows_in, rows_below, IsOn, IsFrom, row_on, all_from, all_in_block, all_below, below_order, below_stand, order_apart, block_filtered}
-use Rattle.row_pages.proofs.Scanned.{ShowsLines, lines_rest, page_lines, block_scanned}
+use Rattle.row_pages.proofs.Scanned.{ReadsLines, lines_rest, page_lines, seen_scanned}
 
 first_alone : (o : Option Version) → first_of_two o None ≡ o
 first_alone None = refl
 first_alone (Some v) = refl
 
 -- no version stands at a line without a tuple
-free_none : (origin : LogOrigin) (log : List Rec) (o : Option Version) → ShowsPlace origin log o unused → o ≡ None
-free_none origin log None shows = refl
-free_none origin log (Some v) (tuple, is, shown) = cc
+free_none :
+    (columns : List Column) (sees : List ℕ → Result Bool Unknown) (test : Version → Bool) (o : Option Version)
+    → ReadsPlace columns sees test o unused → o ≡ None
+free_none columns sees test None reads = refl
+free_none columns sees test (Some v) (tuple, is, seen, row) = cc
 
 -- a version that stands at a place, where it passes
 alone_at :
@@ -88,21 +86,21 @@ later_at test vs block line first more other =
     (λ v h. not_at_line block line first v other h) (row_on test vs block first)))
 
 none_past :
-    (origin : LogOrigin) (log : List Rec) (vs : List Version) (block from line : ℕ)
-    → ShowsLines origin log vs block from [] → from ≤ line → version_at block line vs ≡ None
-none_past origin log vs block from line shows past =
+    (columns : List Column) (sees : List ℕ → Result Bool Unknown) (test : Version → Bool) (vs : List Version) (block from line : ℕ)
+    → ReadsLines columns sees test vs block from [] → from ≤ line → version_at block line vs ≡ None
+none_past columns sees test vs block from line reads past =
     let at : from + (line - from) ≡ line = omega arith in
-    subst (λ (n : ℕ). version_at block n vs ≡ None) at (free_none origin log _ (shows.each (line - from)))
+    subst (λ (n : ℕ). version_at block n vs ≡ None) at (free_none columns sees test _ (reads.each (line - from)))
 
 -- the rows at the lines of a page have the version of each place that is one
 on_at :
-    (origin : LogOrigin) (log : List Rec) (test : Version → Bool) (vs : List Version) (block from line : ℕ)
-    (items : List Item) → ShowsLines origin log vs block from items → from ≤ line
+    (columns : List Column) (sees : List ℕ → Result Bool Unknown) (test : Version → Bool) (vs : List Version) (block from line : ℕ)
+    (items : List Item) → ReadsLines columns sees test vs block from items → from ≤ line
     → version_at block line (rows_on test vs block from items) ≡ kept test (version_at block line vs)
 unfolding rows_on
-on_at origin log test vs block from line [] shows past =
-    at_none block line ∙ ap (kept test) (sym (none_past origin log vs block from line shows past))
-on_at origin log test vs block from line (item ∷ items) shows past =
+on_at columns sees test vs block from line [] reads past =
+    at_none block line ∙ ap (kept test) (sym (none_past columns sees test vs block from line reads past))
+on_at columns sees test vs block from line (item ∷ items) reads past =
     elim (cases_eq line from) [
       | inl e ↦
           subst
@@ -111,27 +109,26 @@ on_at origin log test vs block from line (item ∷ items) shows past =
           (none_before test vs block from (from + 1) items (omega arith)))
       | inr other ↦
           later_at test vs block line from (rows_on test vs block (from + 1) items) other
-          ∙ on_at origin log test vs block (from + 1) line items (lines_rest origin log vs block from item items shows) (omega arith)
+          ∙ on_at columns sees test vs block (from + 1) line items (lines_rest columns sees test vs block from item items reads) (omega arith)
     ]
 
 page_at :
-    (origin : LogOrigin) (log : List Rec) (test : Version → Bool) (vs : List Version) (block line : ℕ)
-    (items : List Item) → ShowsLines origin log vs block 1 items → ShowsBlock origin log vs block items
+    (columns : List Column) (sees : List ℕ → Result Bool Unknown) (test : Version → Bool) (vs : List Version) (block line lsn : ℕ)
+    (items : List Item) → ReadsSeen columns sees test vs block (seen_page lsn items)
     → version_at block line (rows_on test vs block 1 items) ≡ kept test (version_at block line vs)
-page_at origin log test vs block zero items lines shows =
-    none_before test vs block zero 1 items (omega arith) ∙ ap (kept test) (sym (free_none origin log _ (shows zero)))
-page_at origin log test vs block (suc n) items lines shows = on_at origin log test vs block 1 (suc n) items lines (omega arith)
+page_at columns sees test vs block zero lsn items reads =
+    none_before test vs block zero 1 items (omega arith) ∙ ap (kept test) (sym (free_none columns sees test _ (reads zero)))
+page_at columns sees test vs block (suc n) lsn items reads =
+    on_at columns sees test vs block 1 (suc n) items (page_lines columns sees test vs block lsn items reads) (omega arith)
 
 seen_at :
-    (origin : LogOrigin) (log : List Rec) (test : Version → Bool) (vs : List Version) (count : ℕ) (blocks : ℕ → Seen)
-    (block line : ℕ) (seen : Seen) → ShowsTable origin log vs count blocks → ShowsSeen origin log vs count block seen
+    (columns : List Column) (sees : List ℕ → Result Bool Unknown) (test : Version → Bool) (vs : List Version)
+    (block line : ℕ) (seen : Seen) → ReadsSeen columns sees test vs block seen
     → version_at block line (rows_in test vs block seen) ≡ kept test (version_at block line vs)
 unfolding rows_in
-seen_at origin log test vs count blocks block line absent table (past, none) =
-    at_none block line ∙ ap (kept test) (sym (none line))
-seen_at origin log test vs count blocks block line bad_block table shows = absurd shows
-seen_at origin log test vs count blocks block line (seen_page lsn items) table (below, shows) =
-    page_at origin log test vs block line items (page_lines origin log vs count blocks block items table shows) shows
+seen_at columns sees test vs block line absent reads = absurd reads
+seen_at columns sees test vs block line bad_block reads = absurd reads
+seen_at columns sees test vs block line (seen_page lsn items) reads = page_at columns sees test vs block line lsn items reads
 
 none_below :
     (test : Version → Bool) (vs : List Version) (blocks : ℕ → Seen) (block line n : ℕ) → n ≤ block
@@ -184,69 +181,59 @@ below_at test vs blocks block line (suc n) less own =
           next_below test vs blocks block line n other ∙ below_at test vs blocks block line n (omega arith) own
     ]
 
-none_after :
-    (origin : LogOrigin) (log : List Rec) (vs : List Version) (count block line : ℕ) (seen : Seen) → count ≤ block
-    → ShowsSeen origin log vs count block seen → version_at block line vs ≡ None
-none_after origin log vs count block line absent past (_, none) = none line
-none_after origin log vs count block line bad_block past shows = absurd shows
-none_after origin log vs count block line (seen_page lsn items) past (below, shows) = absurd (omega arith)
-
-have_same :
-    (origin : LogOrigin) (log : List Rec) (test : Version → Bool) (vs : List Version) (count : ℕ) (blocks : ℕ → Seen)
-    → ShowsTable origin log vs count blocks → HaveSame (filter test vs) (rows_below test vs blocks count)
-have_same origin log test vs count blocks table block line =
-    version_at-filter block line test vs (table.apart block line)
-    ∙ elim (cases_lt block count) [
-      | inl below ↦
-          sym
-          (below_at test vs blocks block line count below
-          (seen_at origin log test vs count blocks block line (blocks block) table (table.shows block)))
-      | inr past ↦
-          ap (kept test) (none_after origin log vs count block line (blocks block) past (table.shows block))
-          ∙ sym (none_below test vs blocks block line count past)
-    ]
-
--- what is a row holds its place
+-- what passes holds its place
 stand_filtered :
-    (origin : LogOrigin) (log : List Rec) (vs : List Version) → All (IsLost origin log) vs → Each Stands (filter (is_row_in origin log) vs)
-stand_filtered origin log [] lost = tt
-stand_filtered origin log (v ∷ vs) lost =
-    let rest = stand_filtered origin log vs (All-tail (IsLost origin log) v vs lost) in
-    cond_both (is_row_in origin log v) (v ∷ filter (is_row_in origin log) vs) (filter (is_row_in origin log) vs) (λ us. Each Stands us)
-    (λ row. (true_from_ne_false v.holds (λ gone. both_ways (is_row_in origin log v) (All-head (IsLost origin log) v vs lost gone) row), rest))
+    (test : Version → Bool) (vs : List Version) → All (λ (v : Version). v.holds ≡ false → test v ≡ false) vs
+    → Each Stands (filter test vs)
+stand_filtered test [] lost = tt
+stand_filtered test (v ∷ vs) lost =
+    let rest = stand_filtered test vs (All-tail (λ (u : Version). u.holds ≡ false → test u ≡ false) v vs lost) in
+    let first = All-head (λ (u : Version). u.holds ≡ false → test u ≡ false) v vs lost in
+    cond_both (test v) (v ∷ filter test vs) (filter test vs) (λ us. Each Stands us)
+    (λ row. (true_from_ne_false v.holds (λ gone. both_ways (test v) (first gone) row), rest))
     (λ none. rest)
 
-are_rows :
-    (origin : LogOrigin) (log : List Rec) (vs : List Version) (count : ℕ) (blocks : ℕ → Seen)
-    → ShowsTable origin log vs count blocks → IsRows (multixacts log) (committed_in origin log) vs (rows_below (is_row_in origin log) vs blocks count)
-are_rows origin log vs count blocks table =
-    let order = below_order (is_row_in origin log) vs blocks count in
-    record {
-      same =
-          permuted (filter (is_row_in origin log) vs) (rows_below (is_row_in origin log) vs blocks count)
-          (stand_filtered origin log vs table.lost) (below_stand (is_row_in origin log) vs blocks count)
-          (apart-filter (is_row_in origin log) vs table.apart)
-          (order_apart (rows_below (is_row_in origin log) vs blocks count) order)
-          (have_same origin log (is_row_in origin log) vs count blocks table);
-      in_order = order;
-    }
+module _ (columns : List Column) (sees : List ℕ → Result Bool Unknown) (made : Made) (committed : ℕ → Bool) (vs : List Version)
+    (count : ℕ) (blocks : ℕ → Seen) (table : ReadsTable columns sees (is_row made committed) vs count blocks) where
+  abbrev test : Version → Bool
+  test v = is_row made committed v
 
-are_scanned :
-    (origin : LogOrigin) (log : List Rec) (vs : List Version) (count : ℕ) (blocks : ℕ → Seen)
-    (columns : List Column) (sees : List ℕ → Result Bool Unknown) → ShowsTable origin log vs count blocks
-    → SeesThem origin log sees
-    → AreScanned columns sees count blocks (rows_below (is_row_in origin log) vs blocks count)
-are_scanned origin log vs count blocks columns sees table all =
-    record {
-      each =
-          λ block below.
-          block_scanned origin log vs count blocks columns sees block below table all
-          ∙ ap (rows_of_versions columns) (sym (block_filtered (is_row_in origin log) vs blocks count block below));
-    }
+  have_same : HaveSame (filter test vs) (rows_below test vs blocks count)
+  have_same block line =
+      version_at-filter block line test vs (table.apart block line)
+      ∙ elim (cases_lt block count) [
+        | inl below ↦
+            sym
+            (below_at test vs blocks block line count below
+            (seen_at columns sees test vs block line (blocks block) (table.each block below)))
+        | inr past ↦
+            ap (kept test) (table.past block past line)
+            ∙ sym (none_below test vs blocks block line count past)
+      ]
 
-pub scan_gives_rows_holds : ScanGivesRows
-scan_gives_rows_holds origin log vs count blocks columns sees table all = (
-  rows_below (is_row_in origin log) vs blocks count,
-  are_rows origin log vs count blocks table,
-  are_scanned origin log vs count blocks columns sees table all,
+  are_rows : IsRows made committed vs (rows_below test vs blocks count)
+  are_rows =
+      let order = below_order test vs blocks count in
+      record {
+        same =
+            permuted (filter test vs) (rows_below test vs blocks count) (stand_filtered test vs table.lost)
+            (below_stand test vs blocks count) (apart-filter test vs table.apart)
+            (order_apart (rows_below test vs blocks count) order) have_same;
+        in_order = order;
+      }
+
+  are_scanned : AreScanned columns sees count blocks (rows_below test vs blocks count)
+  are_scanned =
+      record {
+        each =
+            λ block below.
+            seen_scanned columns sees test vs block (blocks block) (table.each block below)
+            ∙ ap (rows_of_versions columns) (sym (block_filtered test vs blocks count block below));
+      }
+
+pub scan_gives_read_holds : ScanGivesRead
+scan_gives_read_holds columns sees made committed vs count blocks table = (
+  rows_below (is_row made committed) vs blocks count,
+  are_rows columns sees made committed vs count blocks table,
+  are_scanned columns sees made committed vs count blocks table,
 )

@@ -1,17 +1,18 @@
 -- What the blocks of a table give to a scan, where they show the table's versions.
-use Rattle.std.specs.Prelude.{◌≡◌, ℕ, ◌<◌, ◌==◌, Bool, List, [], ◌∷◌, filter, Ok, Result}
+use Rattle.std.specs.Prelude.{◌≡◌, ℕ, ◌<◌, ◌≤◌, ◌==◌, Bool, false, List, [], ◌∷◌, All, filter, Option, Some, None, Ok, Result}
 use Rattle.pg_types.specs.declared.status.Unknown.{Unknown}
 use Rattle.heap_tuple.specs.Values.{row_of}
 use Rattle.heap_tuple.specs.declared.cell.Column.{Column}
 use Rattle.wal_bodies.specs.declared.types.Rec.{Rec}
-use Rattle.page_store.specs.Seen.{Seen}
+use Rattle.heap_page.specs.Item.{Item, normal, numbered}
+use Rattle.page_store.specs.Seen.{Seen, absent, bad_block, seen_page}
 use Rattle.seq_scan.specs.BlockRows.{BlockRows, Whole, block_rows, ends, with_values}
-use Rattle.row_model.specs.Versions.{Version}
+use Rattle.row_model.specs.Versions.{Version, version_at}
 use Rattle.row_model.specs.Origins.{LogOrigin, committed_in}
-use Rattle.row_model.specs.Multixacts.{multixacts}
+use Rattle.row_model.specs.Multixacts.{Made, multixacts}
 use Rattle.row_model.specs.Rows.{IsRows, is_row}
 use Rattle.row_model.specs.Shows.{Shows}
-use Rattle.row_model.specs.Shown.{IsSound, ShowsTable}
+use Rattle.row_model.specs.Shown.{HasNone, IsSound, ShowsTable, count_at}
 
 -- the values of rows, one after the other, up to the first that is refused
 unfoldable pub rows_of_versions : List Column → List Version → BlockRows
@@ -41,3 +42,32 @@ ScanGivesRows =
     (columns : List Column) (sees : List ℕ → Result Bool Unknown)
     → ShowsTable o log vs count blocks → SeesThem o log sees
     → (rows : List Version) × IsRows (multixacts log) (committed_in o log) vs rows × AreScanned columns sees count blocks rows
+
+-- what a scan reads at a line: no tuple that is seen, where no version stands; else one that is seen exactly where the
+-- version passes a test, and has its row
+abbrev pub ReadsPlace : List Column → (List ℕ → Result Bool Unknown) → (Version → Bool) → Option Version → Item → Type 0
+ReadsPlace columns sees test None item = (tuple : List ℕ) → item ≡ normal tuple → sees tuple ≡ Ok false
+ReadsPlace columns sees test (Some v) item =
+    (tuple : List ℕ) × (item ≡ normal tuple) × (sees tuple ≡ Ok (test v)) × (row_of tuple columns ≡ row_of v.tuple columns)
+
+-- a block is a page, of which it reads the versions of these places
+abbrev pub ReadsSeen : List Column → (List ℕ → Result Bool Unknown) → (Version → Bool) → List Version → ℕ → Seen → Type 0
+ReadsSeen columns sees test vs block absent = ⊥
+ReadsSeen columns sees test vs block bad_block = ⊥
+ReadsSeen columns sees test vs block (seen_page lsn items) =
+    (line : ℕ) → ReadsPlace columns sees test (version_at block line vs) (numbered items line)
+
+-- it reads the versions that stand below so many blocks: none stands in another, no two at one place, and one that lost
+-- its place does not pass
+pub record ReadsTable (columns : List Column) (sees : List ℕ → Result Bool Unknown) (test : Version → Bool) (vs : List Version) (count : ℕ) (blocks : ℕ → Seen) : Type 0 where
+  pub each : (block : ℕ) → block < count → ReadsSeen columns sees test vs block (blocks block)
+  pub past : (block : ℕ) → count ≤ block → HasNone vs block
+  pub apart : (block line : ℕ) → count_at block line vs ≤ 1
+  pub lost : All (λ (v : Version). v.holds ≡ false → test v ≡ false) vs
+
+-- a scan of blocks in which it reads some versions gives the rows among them, block by block
+abbrev pub ScanGivesRead : Type 0
+ScanGivesRead =
+    (columns : List Column) (sees : List ℕ → Result Bool Unknown) (made : Made) (committed : ℕ → Bool) (vs : List Version)
+    (count : ℕ) (blocks : ℕ → Seen) → ReadsTable columns sees (is_row made committed) vs count blocks
+    → (rows : List Version) × IsRows made committed vs rows × AreScanned columns sees count blocks rows

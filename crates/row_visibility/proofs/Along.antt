@@ -2,7 +2,7 @@
 use Rattle.std.proofs.Common.{◌≡◌, ℕ, Bool, false, not, ◌&&◌, cond, List, [], ◌∷◌, ◌++◌, arith, refl, sym, ap, ◌∙◌, subst}
 use Rattle.std.proofs.Math.Path.{fun_ext}
 use Rattle.std.proofs.lemmas.Bool.{cond_both, le-leb, or_from}
-use Rattle.std.proofs.lemmas.List.{append-nil}
+use Rattle.std.proofs.lemmas.List.{append-nil, map-append}
 use Rattle.std.specs.List.{list_any}
 use Rattle.wal_record.specs.declared.types.RecordHead.{RecordHead}
 use Rattle.wal_bodies.specs.declared.types.Rec.{Rec}
@@ -17,10 +17,11 @@ use Rattle.xact_redo.specs.State.{before_records, shows_ended, standby_of, state
 use Rattle.xact_redo.specs.TransactionsOf.{is_commit, at_shutdown, kind_of, transaction_of, transactions_of}
 use Rattle.transaction_model.specs.Transactions.{Kind, Commit, Abort, Shutdown, Online, TransactionRecord, IsXmin, committed}
 use Rattle.transaction_model.specs.LegalTransactions.{Legal, TransactionOrigin}
-use Rattle.transaction_model.specs.StandbyStates.{Leads, StandbyState, forget_below, replay, shown}
+use Rattle.transaction_model.specs.StandbyStates.{Leads, LeadsOn, StandbyState, forget_below, replay, shown}
 use Rattle.transaction_model.specs.TransactionLaws.{IdsDecide, NoneAssigned, StateAgrees, XminAgrees, is_assignment}
 use Rattle.row_visibility.specs.Sees.{HasNoStatuses, StateAlong, XminAlong, state_along}
-use Rattle.row_visibility.proofs.Statuses.{ended_along, first, is_caught_up, legal_rest, shows_finished}
+use Rattle.transaction_model.proofs.Endings.{legal_rest}
+use Rattle.row_visibility.proofs.Statuses.{ended_along, first, is_caught_up, shows_finished}
 
 -- from the subtransaction 0 on there are all parents
 from_zero : (pairs : List Pair) → from_sub pairs 0 ≡ pairs
@@ -85,6 +86,64 @@ xmin_is agrees xmins o log none legal ready =
     (xmins o first [] (transactions_of log) (standby_of (state_along log))
     (legal_before_none o (transactions_of log) legal) (shows_finished o.at none)
     (is_caught_up o.at (transactions_of log ++ [])) (sym (state_is agrees o log legal) ∙ ready) (leads_along o log legal))
+
+-- the records of a log, and then of more
+pub transactions_joined :
+    (later opened : List Rec) → transactions_of (later ++ opened) ≡ transactions_of later ++ transactions_of opened
+transactions_joined later opened = map-append transaction_of later opened
+
+pub legal_older :
+    (o : TransactionOrigin) (later opened : List Rec) → Legal o (transactions_of (later ++ opened)) → Legal o (transactions_of opened)
+legal_older o [] opened legal = legal
+legal_older o (r ∷ later) opened legal =
+    legal_older o later opened (legal_rest o (transaction_of r) (transactions_of (later ++ opened)) legal)
+
+-- further records lead on, with none of the parents forgotten
+leads_on_along :
+    (o : TransactionOrigin) (later opened : List Rec) → Legal o (transactions_of (later ++ opened)) → (xmin : ℕ)
+    → LeadsOn first (transactions_of opened) (standby_of (state_along opened)) xmin (transactions_of later)
+    (standby_of (state_along (later ++ opened)))
+unfolding state_along state_after before_records transaction_of
+leads_on_along o [] opened legal xmin = refl
+leads_on_along o (r ∷ later) opened legal xmin =
+    let before = legal_rest o (transaction_of r) (transactions_of (later ++ opened)) legal in
+    let was = standby_of (state_along (later ++ opened)) in
+    let shows = shown first (transactions_of later ++ transactions_of opened) in
+    let same : shows_ended (state_along (later ++ opened)).statuses ≡ shows =
+    fun_ext (ended_along o (later ++ opened) before)
+    ∙ ap (λ (log : List TransactionRecord). shown first log) (transactions_joined later opened) in (
+      was,
+      0,
+      leads_on_along o later opened before xmin,
+      λ x h. omega arith,
+      omega arith,
+      ap (λ (t : ℕ → Bool). replay t r.head.xid.0 (kind_of r.head r.kind) was) same
+          ∙ sym (forget_none (replay shows r.head.xid.0 (kind_of r.head r.kind) was)),
+    )
+
+-- an id committed by now and is not in progress by a snapshot exactly where it had committed as that was taken
+pub decided_then :
+    StateAgrees → IdsDecide → (o : TransactionOrigin) (later opened : List Rec) → HasNoStatuses o.at
+    → Legal o (transactions_of (later ++ opened)) → (state_along opened).known.mode ≡ Ready → (x : ℕ)
+    → (not (in_progress (take_of (state_along opened).known) no_parents x) && committed o.at x (transactions_of (later ++ opened)))
+    ≡ committed o.at x (transactions_of opened)
+decided_then agrees decide o later opened none legal ready x =
+    let more : List TransactionRecord = transactions_of later in
+    let life : List TransactionRecord = transactions_of opened in
+    let joined = transactions_joined later opened in
+    let snapshot = take_of (state_along opened).known in
+    let opened_legal = legal_older o later opened legal in
+    let now_legal : Legal o (more ++ life) = subst (Legal o) joined legal in
+    let none_given : NoneAssigned (more ++ life) = subst NoneAssigned joined (none_assigned (later ++ opened)) in
+    let decided =
+    decide o first [] life more (standby_of (state_along opened)) (standby_of (state_along (later ++ opened)))
+    (legal_before_none o (more ++ life) now_legal) (shows_finished o.at none) (is_caught_up o.at (life ++ []))
+    (sym (state_is agrees o opened opened_legal) ∙ ready) (leads_along o opened opened_legal)
+    (leads_on_along o later opened legal snapshot.xmin) none_given x in
+    ap (λ (l : List TransactionRecord). not (in_progress snapshot no_parents x) && committed o.at x l)
+    (joined ∙ sym (append-nil (more ++ life)))
+    ∙ decided
+    ∙ ap (λ (l : List TransactionRecord). committed o.at x l) (append-nil life)
 
 -- an id that committed is not in progress
 pub decided_along :

@@ -17,26 +17,13 @@ use Rattle.transaction_model.specs.Transactions.{Kind, Commit, Abort, Shutdown, 
 use Rattle.transaction_model.specs.LegalTransactions.{Legal, NamesLive, TransactionOrigin, TransactionOriginRule, RuleOf}
 use Rattle.transaction_model.specs.StandbyStates.{shown}
 use Rattle.transaction_model.specs.TransactionLaws.{IsCaughtUp, ShowsFinished}
-use Rattle.transaction_model.proofs.Endings.{live_not_committed}
+use Rattle.transaction_model.proofs.Endings.{legal_rest, live_not_committed, origin_rule, rule_of}
 use Rattle.xact_redo.specs.TransactionsOf.{is_commit, at_shutdown, kind_of, transaction_of, transactions_of}
 use Rattle.row_visibility.specs.Sees.{HasNoStatuses, state_along}
 
 -- what the commit log shows ended before the first record
 abbrev pub first : ℕ → Bool
 first x = has_ended (initial_status x)
-
-pub origin_rule : (o : TransactionOrigin) (log : List TransactionRecord) → Legal o log → TransactionOriginRule o
-unfolding Legal
-origin_rule o [] legal = legal
-origin_rule o (r ∷ older) (rule, legal) = origin_rule o older legal
-
-pub legal_rest : (o : TransactionOrigin) (r : TransactionRecord) (older : List TransactionRecord) → Legal o (r ∷ older) → Legal o older
-unfolding Legal
-legal_rest o r older (rule, legal) = legal
-
-pub rule_of : (o : TransactionOrigin) (r : TransactionRecord) (older : List TransactionRecord) → Legal o (r ∷ older) → RuleOf o r.xid r.kind older (r ∷ older)
-unfolding Legal
-rule_of o r older (rule, legal) = rule
 
 -- ids as numbers
 any_number : (x : ℕ) (xids : List Xid) → list_any (λ (y : Xid). y.0 == x) xids ≡ is_among x (numbers xids)

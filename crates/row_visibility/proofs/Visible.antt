@@ -1,6 +1,6 @@
 -- A snapshot that decides as the log does sees exactly the rows.
-use Rattle.std.proofs.Common.{◌≡◌, ℕ, Bool, true, false, not, ◌&&◌, ◌||◌, ◌==◌, cond, List, Some, Result, Ok, refl, sym, ap, ◌∙◌}
-use Rattle.std.proofs.lemmas.Bool.{eqb-true, false≢true, true≢false}
+use Rattle.std.proofs.Common.{◌≡◌, ℕ, Bool, true, false, not, ◌&&◌, ◌||◌, ◌==◌, cond, List, ◌++◌, Some, Result, Ok, refl, sym, ap, ◌∙◌}
+use Rattle.std.proofs.lemmas.Bool.{and_right, eqb-true, false≢true, true≢false}
 use Rattle.pg_types.specs.declared.status.Status.{Status}
 use Rattle.pg_types.specs.declared.status.Unknown.{Unknown}
 use Rattle.pg_types.specs.Numbers.{has_bits}
@@ -16,11 +16,10 @@ use Rattle.row_model.specs.Origins.{LogOrigin, committed_in}
 use Rattle.row_model.specs.Multixacts.{WasMade, deleter_in, multixacts}
 use Rattle.row_model.specs.Rows.{counts as inserter_is_in, is_deleted, is_row}
 use Rattle.row_model.specs.Shows.{AreMarksTrue, Shows, ShowsDeleter, ShowsInserter}
-use Rattle.row_model.specs.Shown.{IsSound}
 use Rattle.xact_redo.specs.TransactionsOf.{transactions_of}
 use Rattle.xact_redo.specs.Sees.{no_multixacts}
-use Rattle.row_visibility.specs.Sees.{SeesRows, state_along}
-use Rattle.row_visibility.proofs.Along.{decided_along}
+use Rattle.row_visibility.specs.Sees.{SeesOpened, SeesRows, state_along}
+use Rattle.row_visibility.proofs.Along.{decided_along, decided_then, legal_older}
 use Rattle.row_visibility.proofs.Statuses.{committed_along, first_committed, zero_not_committed}
 
 -- a mark that is true tells nothing more
@@ -56,13 +55,19 @@ seen_is i true e d same gone =
     ap (λ (t : Bool). cond t (unless_deleted d) (Ok false)) same ∙ ap unless_deleted (gone refl)
 seen_is i false e d same gone = ap (λ (t : Bool). cond t (unless_deleted d) (Ok false)) same
 
-module _ (o : LogOrigin) (log : List Rec) (snapshot : SnapshotData) (statuses : ℕ → Status)
-    (decided : (x : ℕ) → (not (in_progress snapshot no_parents x) && committed_in o log x) ≡ committed_in o log x)
-    (same : (x : ℕ) → is_committed (statuses x) ≡ committed_in o log x) (zero : committed_in o log 0 ≡ false) where
-  -- an id counts exactly where it committed
+-- a snapshot by which an id that committed by now is not in progress exactly where it had committed as it was taken
+module _ (o : LogOrigin) (log : List Rec) (snapshot : SnapshotData) (statuses : ℕ → Status) (was : ℕ → Bool)
+    (decided : (x : ℕ) → (not (in_progress snapshot no_parents x) && committed_in o log x) ≡ was x)
+    (same : (x : ℕ) → is_committed (statuses x) ≡ committed_in o log x)
+    (first : (x : ℕ) → (x == 1 || x == 2) ≡ true → was x ≡ true) (zero : was 0 ≡ false) where
+  -- what has not committed by now had not
+  was_not : (x : ℕ) → committed_in o log x ≡ false → was x ≡ false
+  was_not x e = sym (decided x) ∙ and_right (not (in_progress snapshot no_parents x)) (committed_in o log x) e
+
+  -- an id counts exactly where it had committed
   counts_is :
       (marked : Bool) (x : ℕ) → (marked ≡ true → committed_in o log x ≡ true)
-      → counts snapshot no_parents statuses marked x ≡ committed_in o log x
+      → counts snapshot no_parents statuses marked x ≡ was x
   counts_is marked x h =
       ap (λ (t : Bool). not (in_progress snapshot no_parents x) && (marked || t)) (same x)
       ∙ ap (λ (t : Bool). not (in_progress snapshot no_parents x) && t) (marked_or marked (committed_in o log x) h)
@@ -70,10 +75,10 @@ module _ (o : LogOrigin) (log : List Rec) (snapshot : SnapshotData) (statuses : 
 
   deleter_is :
       (d : MaxOf) (invalid marked : Bool) → WasMade log d
-      → ((x : ℕ) → deleter_in log d ≡ Some x → invalid ≡ true → committed_in o log x ≡ false)
+      → ((x : ℕ) → deleter_in log d ≡ Some x → invalid ≡ true → was x ≡ false)
       → ((x : ℕ) → deleter_in log d ≡ Some x → marked ≡ true → committed_in o log x ≡ true)
       → deleter_counts snapshot no_parents statuses no_multixacts marked (cond invalid NoDeleter d)
-      ≡ Ok (is_deleted (multixacts log) (committed_in o log) d)
+      ≡ Ok (is_deleted (multixacts log) was d)
   deleter_is NoDeleter true marked made failed done = refl
   deleter_is NoDeleter false marked made failed done = refl
   deleter_is (DeletedBy x) true marked made failed done = ap Ok (sym (failed x.0 refl refl))
@@ -84,7 +89,7 @@ module _ (o : LogOrigin) (log : List Rec) (snapshot : SnapshotData) (statuses : 
   deleter_shown :
       (v : Version) (tuple : List ℕ) → max_of tuple ≡ v.deleter → AreMarksTrue o log v tuple → WasMade log v.deleter
       → deleter_counts snapshot no_parents statuses no_multixacts (has_bits (infomask_of tuple) 0x0400) (deleter_of tuple)
-      ≡ Ok (is_deleted (multixacts log) (committed_in o log) v.deleter)
+      ≡ Ok (is_deleted (multixacts log) was v.deleter)
   unfolding deleter_of
   deleter_shown v tuple is marks made =
       ap (λ (d : MaxOf).
@@ -92,34 +97,33 @@ module _ (o : LogOrigin) (log : List Rec) (snapshot : SnapshotData) (statuses : 
       (cond (has_bits (infomask_of tuple) 0x0800) NoDeleter d))
       is
       ∙ deleter_is v.deleter (has_bits (infomask_of tuple) 0x0800) (has_bits (infomask_of tuple) 0x0400) made
-      (λ x e h. (marks.deleter_failed x e h).not_committed) marks.deleter_committed
+      (λ x e h. was_not x (marks.deleter_failed x e h).not_committed) marks.deleter_committed
 
   -- with these marks and this xmin
   inserter_tests :
-      (m n : ℕ) → (m == 0x0300) ≡ false → (m ≡ 0x0200 → committed_in o log n ≡ false)
+      (m n : ℕ) → (m == 0x0300) ≡ false → (m ≡ 0x0200 → was n ≡ false)
       → (m ≡ 0x0100 → committed_in o log n ≡ true)
       → ((m == 0x0300)
       || (n == 1)
       || (n == 2)
       || (not (n == 0) && not (m == 0x0200) && counts snapshot no_parents statuses (m == 0x0100) n))
-      ≡ committed_in o log n
+      ≡ was n
   inserter_tests m n thawed failed done =
       tests_of_inserter (m == 0x0300) (n == 1) (n == 2) (n == 0) (m == 0x0200)
-      (counts snapshot no_parents statuses (m == 0x0100) n) (committed_in o log n) thawed
-      (first_committed o.transactions.at (transactions_of log) n)
-      (λ h. ap (committed_in o log) (eqb-true n 0 h) ∙ zero) (λ h. failed (eqb-true m 0x0200 h))
+      (counts snapshot no_parents statuses (m == 0x0100) n) (was n) thawed (first n)
+      (λ h. ap was (eqb-true n 0 h) ∙ zero) (λ h. failed (eqb-true m 0x0200 h))
       (counts_is (m == 0x0100) n (λ h. done (eqb-true m 0x0100 h)))
 
   -- a transaction's insertion counts exactly where it committed
   inserter_by :
       (tuple : List ℕ) (x : ℕ) → xmin_of tuple ≡ x → is_frozen tuple ≡ false
-      → (xmin_marks tuple ≡ 0x0200 → committed_in o log x ≡ false)
+      → (xmin_marks tuple ≡ 0x0200 → was x ≡ false)
       → (xmin_marks tuple ≡ 0x0100 → committed_in o log x ≡ true)
-      → inserter_counts tuple snapshot no_parents statuses ≡ committed_in o log x
+      → inserter_counts tuple snapshot no_parents statuses ≡ was x
   unfolding inserter_counts
   inserter_by tuple x is thawed failed done =
-      let at_x : committed_in o log (xmin_of tuple) ≡ committed_in o log x = ap (committed_in o log) is in
-      inserter_tests (xmin_marks tuple) (xmin_of tuple) thawed (λ e. at_x ∙ failed e) (λ e. at_x ∙ done e) ∙ at_x
+      let at_x : was (xmin_of tuple) ≡ was x = ap was is in
+      inserter_tests (xmin_marks tuple) (xmin_of tuple) thawed (λ e. at_x ∙ failed e) (λ e. ap (committed_in o log) is ∙ done e) ∙ at_x
 
   -- an insertion that was taken back does not count
   inserter_gone :
@@ -144,37 +148,47 @@ module _ (o : LogOrigin) (log : List Rec) (snapshot : SnapshotData) (statuses : 
   -- an inserter counts where the tuple shows it, frozen only where it counts
   inserter_is :
       (v : Version) (tuple : List ℕ) (i : Inserter) (frozen : Bool) → v.inserter ≡ i → is_frozen tuple ≡ frozen
-      → (frozen ≡ true → inserter_is_in (committed_in o log) i ≡ true) → ShowsInserter tuple i → AreMarksTrue o log v tuple
-      → inserter_counts tuple snapshot no_parents statuses ≡ inserter_is_in (committed_in o log) i
+      → (frozen ≡ true → inserter_is_in was i ≡ true) → ShowsInserter tuple i → AreMarksTrue o log v tuple
+      → inserter_counts tuple snapshot no_parents statuses ≡ inserter_is_in was i
   inserter_is v tuple i true by frozen counted shows marks = inserter_frozen tuple frozen ∙ sym (counted refl)
   inserter_is v tuple Nobody false by thawed counted shows marks = inserter_gone tuple shows thawed
   inserter_is v tuple Always false by thawed counted shows marks = absurd (false≢true (sym thawed ∙ shows))
   inserter_is v tuple (By x) false by thawed counted shows marks =
-      inserter_by tuple x shows thawed (λ e. (marks.inserter_failed x by e).not_committed) (marks.inserter_committed x by)
+      inserter_by tuple x shows thawed (λ e. was_not x (marks.inserter_failed x by e).not_committed) (marks.inserter_committed x by)
 
   -- a deleter matters where the inserter counts
   deleter_by :
       (v : Version) (tuple : List ℕ) (i : Inserter) → ShowsDeleter tuple i v.deleter → AreMarksTrue o log v tuple
-      → WasMade log v.deleter → inserter_is_in (committed_in o log) i ≡ true
+      → WasMade log v.deleter → inserter_is_in was i ≡ true
       → deleter_counts snapshot no_parents statuses no_multixacts (has_bits (infomask_of tuple) 0x0400) (deleter_of tuple)
-      ≡ Ok (is_deleted (multixacts log) (committed_in o log) v.deleter)
+      ≡ Ok (is_deleted (multixacts log) was v.deleter)
   deleter_by v tuple Nobody shows marks made h = absurd (false≢true h)
   deleter_by v tuple Always shows marks made h = deleter_shown v tuple shows marks made
   deleter_by v tuple (By x) shows marks made h = deleter_shown v tuple shows marks made
 
   pub sees_is :
-      (v : Version) (tuple : List ℕ) → Shows o log v tuple → IsSound o log v
-      → visible_of tuple snapshot no_parents statuses no_multixacts ≡ Ok (is_row (multixacts log) (committed_in o log) v)
+      (v : Version) (tuple : List ℕ) → Shows o log v tuple → WasMade log v.deleter
+      → (v.frozen ≡ true → inserter_is_in was v.inserter ≡ true)
+      → visible_of tuple snapshot no_parents statuses no_multixacts ≡ Ok (is_row (multixacts log) was v)
   unfolding visible_of
-  sees_is v tuple shows sound =
-      seen_is (inserter_counts tuple snapshot no_parents statuses) (inserter_is_in (committed_in o log) v.inserter)
-      (is_deleted (multixacts log) (committed_in o log) v.deleter)
+  sees_is v tuple shows made frozen =
+      seen_is (inserter_counts tuple snapshot no_parents statuses) (inserter_is_in was v.inserter)
+      (is_deleted (multixacts log) was v.deleter)
       (deleter_counts snapshot no_parents statuses no_multixacts (has_bits (infomask_of tuple) 0x0400) (deleter_of tuple))
-      (inserter_is v tuple v.inserter (is_frozen tuple) refl refl (λ h. sound.frozen (sym shows.frozen ∙ h)) shows.inserter shows.marks)
-      (deleter_by v tuple v.inserter shows.deleter shows.marks sound.made)
+      (inserter_is v tuple v.inserter (is_frozen tuple) refl refl (λ h. frozen (sym shows.frozen ∙ h)) shows.inserter shows.marks)
+      (deleter_by v tuple v.inserter shows.deleter shows.marks made)
 
 pub sees_along : StateAgrees → IdsDecide → SeesRows
 sees_along agrees decide o log none legal ready v tuple shows sound =
-    sees_is o log (take_of (state_along log).known) (state_along log).statuses
+    sees_is o log (take_of (state_along log).known) (state_along log).statuses (committed_in o log)
     (decided_along agrees decide o.transactions log none legal ready) (committed_along o.transactions log none legal)
-    (zero_not_committed o.transactions (transactions_of log) legal) v tuple shows sound
+    (first_committed o.transactions.at (transactions_of log)) (zero_not_committed o.transactions (transactions_of log) legal) v
+    tuple shows sound.made sound.frozen
+
+pub sees_then : StateAgrees → IdsDecide → SeesOpened
+sees_then agrees decide o later opened none legal ready v tuple shows sound frozen =
+    sees_is o (later ++ opened) (take_of (state_along opened).known) (state_along (later ++ opened)).statuses
+    (committed_in o opened) (decided_then agrees decide o.transactions later opened none legal ready)
+    (committed_along o.transactions (later ++ opened) none legal) (first_committed o.transactions.at (transactions_of opened))
+    (zero_not_committed o.transactions (transactions_of opened) (legal_older o.transactions later opened legal)) v tuple shows
+    sound.made frozen

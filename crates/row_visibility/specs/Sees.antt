@@ -1,15 +1,15 @@
 -- What a standby's snapshot and commit log say after a legal log.
-use Rattle.std.specs.Prelude.{◌≡◌, ℕ, false, List, [], ◌∷◌, Ok}
+use Rattle.std.specs.Prelude.{◌≡◌, ℕ, true, false, List, [], ◌∷◌, ◌++◌, Ok}
 use Rattle.wal_bodies.specs.declared.types.Rec.{Rec}
 use Rattle.known_assigned.specs.declared.state.State.TheVariants.{Ready}
 use Rattle.standby_snapshot.specs.Snapshot.{take_of}
-use Rattle.xact_redo.specs.Sees.{sees}
+use Rattle.xact_redo.specs.Sees.{sees, sees_by}
 use Rattle.xact_redo.specs.State.{TransactionState, before_records, state_after}
 use Rattle.transaction_model.specs.Transactions.{Statuses, IsXmin, state_of}
 use Rattle.transaction_model.specs.LegalTransactions.{Legal, TransactionOrigin}
 use Rattle.xact_redo.specs.TransactionsOf.{transactions_of}
 use Rattle.row_model.specs.Versions.{Version}
-use Rattle.row_model.specs.Rows.{is_row}
+use Rattle.row_model.specs.Rows.{counts, is_row}
 use Rattle.row_model.specs.Origins.{LogOrigin, committed_in}
 use Rattle.row_model.specs.Multixacts.{multixacts}
 use Rattle.row_model.specs.Shows.{Shows}
@@ -42,3 +42,14 @@ SeesRows =
     → (state_along log).known.mode ≡ Ready
     → (v : Version) (tuple : List ℕ) → Shows o log v tuple → IsSound o log v
     → sees (state_along log) tuple ≡ Ok (is_row (multixacts log) (committed_in o log) v)
+
+-- a snapshot that was taken earlier sees exactly the tuples whose versions were rows then, where the inserter of one that
+-- is marked frozen counted then
+abbrev pub SeesOpened : Type 0
+SeesOpened =
+    (o : LogOrigin) (later opened : List Rec) → HasNoStatuses o.transactions.at
+    → Legal o.transactions (transactions_of (later ++ opened)) → (state_along opened).known.mode ≡ Ready
+    → (v : Version) (tuple : List ℕ) → Shows o (later ++ opened) v tuple → IsSound o (later ++ opened) v
+    → (v.frozen ≡ true → counts (committed_in o opened) v.inserter ≡ true)
+    → sees_by (take_of (state_along opened).known) (state_along (later ++ opened)) tuple
+    ≡ Ok (is_row (multixacts opened) (committed_in o opened) v)

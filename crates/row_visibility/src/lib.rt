@@ -1,7 +1,7 @@
 //! After a legal log a snapshot of the standby sees exactly the rows.
 #![tactic(auto)]
 
-ghost use Rattle.row_visibility.specs.Sees.{SeesRows, StateAlong, XminAlong};
+ghost use Rattle.row_visibility.specs.Sees.{SeesOpened, SeesRows, StateAlong, XminAlong};
 ghost use Rattle.row_visibility.specs.WorkedSight.{IsWorkedSight};
 
 /// The state of the rules is that of the log.
@@ -22,6 +22,14 @@ pub fn xmin_along()
 /// A snapshot sees exactly the tuples whose versions are rows.
 pub fn sees_rows()
     ensures { SeesRows }
+{
+    transaction_model::transactions::state_agrees();
+    transaction_model::transactions::ids_decide();
+}
+
+/// A snapshot that was taken earlier sees exactly the tuples whose versions were rows then.
+pub fn sees_opened()
+    ensures { SeesOpened }
 {
     transaction_model::transactions::state_agrees();
     transaction_model::transactions::ids_decide();

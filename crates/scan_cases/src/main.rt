@@ -1,14 +1,19 @@
-//! Runs `scan t` over small logs and small descriptions of tables, with all objects in memory, and prints each
-//! answer's status and text. The logs, in data/cases, are made of their notation, in data/cases.note, by an
-//! assembler of log records that shares nothing with this product. The descriptions, in data/schemas, were
-//! written and what has to be printed, in the file stdout, was worked out by hand.
+//! Runs `scan t` over small logs and small descriptions of tables, and then sessions, with all objects in memory, and
+//! prints each answer's status and text. The logs, in data/cases, are made of their notation, in data/cases.note, by
+//! an assembler of log records that shares nothing with this product. The descriptions, in data/schemas, and the
+//! sessions, in data/sessions, were written and what has to be printed, in the file stdout, was worked out by hand.
 #![tactic(auto)]
 
+mod faults;
 mod nodes;
 mod schemas;
+mod sessions;
 
 use case_text::{bytes, number_u32};
-use outside::{Archive, BaseDir, MemoryArchive, MemorySink, SteadyArchive, SteadyBase, SteadySink};
+use outside::{
+    Archive, BaseDir, MemoryArchive, MemorySink, Source, SteadyArchive, SteadyBase, SteadySink,
+    SteadySource,
+};
 use standby_cli::standby_main;
 use std::alloc::{AllocError, Global};
 use std::{fs, io};
@@ -116,7 +121,8 @@ fn main(rt: HostRuntime) -> io::Result<()> {
     other_words(&rt, &mut base)?;
     failures(&rt, &mut base)?;
     schemas::cases(&rt)?;
-    schemas::failures(&rt)
+    schemas::failures(&rt)?;
+    sessions::cases(&rt)
 }
 
 /// A record that begins 32 bytes before a segment's end, behind one that fills the rest of the segment, whose
@@ -203,11 +209,19 @@ fn failures(rt: &HostRuntime, base: &mut SteadyBase) -> io::Result<()> {
     let words = words_of(rt.alloc(), &["scan", "t"])?;
     let mut archive = archive_of(rt, "plain")?;
     let mut out = MemorySink::new(rt.alloc(), &[2]).map_err(|_| AllocError)?;
-    let status = standby_main(rt.alloc(), words.as_slice(), &mut archive, base, &mut out);
+    let mut none = SteadySource::new(rt.alloc(), b"").map_err(|_| AllocError)?;
+    let status = standby_main(
+        rt.alloc(),
+        words.as_slice(),
+        &mut archive,
+        base,
+        &mut none,
+        &mut out,
+    );
     print_answer(rt, "failing sink", status, out.written.as_slice())
 }
 
-/// Answers the words, and prints the status and the text.
+/// Answers the words, over no lines, and prints the status and the text.
 pub fn report<A: Archive, B: BaseDir>(
     rt: &HostRuntime,
     name: &str,
@@ -215,9 +229,29 @@ pub fn report<A: Archive, B: BaseDir>(
     archive: &mut A,
     base: &mut B,
 ) -> io::Result<()> {
+    let mut none = SteadySource::new(rt.alloc(), b"").map_err(|_| AllocError)?;
+    report_over(rt, name, texts, archive, base, &mut none)
+}
+
+/// Answers the words over the source, and prints the status and the text.
+pub fn report_over<A: Archive, B: BaseDir, S: Source>(
+    rt: &HostRuntime,
+    name: &str,
+    texts: &[&str],
+    archive: &mut A,
+    base: &mut B,
+    source: &mut S,
+) -> io::Result<()> {
     let words = words_of(rt.alloc(), texts)?;
     let mut out = SteadySink::new(rt.alloc());
-    let status = standby_main(rt.alloc(), words.as_slice(), archive, base, &mut out);
+    let status = standby_main(
+        rt.alloc(),
+        words.as_slice(),
+        archive,
+        base,
+        source,
+        &mut out,
+    );
     print_answer(rt, name, status, out.as_slice())
 }
 
@@ -235,7 +269,8 @@ fn print_answer(rt: &HostRuntime, name: &str, status: u8, text: &[u8]) -> io::Re
     println!(rt; "")
 }
 
-fn words_of(alloc: Global, texts: &[&str]) -> Result<Vec<String>, AllocError> {
+/// The words of a command line.
+pub fn words_of(alloc: Global, texts: &[&str]) -> Result<Vec<String>, AllocError> {
     let mut words = Vec::new(alloc);
     for text in texts {
         words.push(String::from_str(alloc, text)?)?;

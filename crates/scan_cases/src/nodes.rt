@@ -8,12 +8,13 @@ use known_assigned::State;
 use outside::{Archive, MemoryArchive, SteadyArchive};
 use page_store::Pool;
 use pg_types::{Lsn, Status, Xid};
-use standby_core::{Node, NodeFault, NodeParts, NodeStatus, Origin, Refusal, Replayed};
+use standby_core::{Node, NodeFault, NodeStatus, Origin, Refusal, Replayed};
 use std::alloc::Global;
 use std::io;
 use table_schema::read_schema;
 use tuple_visibility::Statuses;
 use wal_reader::EndWhy;
+use xact_redo::XactState;
 
 /// The description of the table.
 const DESCRIPTION: &str =
@@ -84,7 +85,7 @@ fn run<A: Archive>(
         }
     }
     if let [.., "parts", xid] = *asked {
-        show_parts(answer, node.parts(), Xid(number_u64(xid)?));
+        show_transaction(answer, node.transactions(), Xid(number_u64(xid)?));
     }
     answer.field(" ", archive.faults());
     answer.say(" faults");
@@ -155,9 +156,9 @@ fn show_status(answer: &mut Answer, status: NodeStatus) {
 }
 
 /// What is known of a transaction, and the latest that completed.
-fn show_parts(answer: &mut Answer, parts: NodeParts, xid: Xid) {
+fn show_transaction(answer: &mut Answer, transactions: &XactState, xid: Xid) {
     answer.field(" ", xid.0);
-    answer.say(match parts.state.status(xid) {
+    answer.say(match transactions.status(xid) {
         Status::None => " unknown",
         Status::Committed => " committed",
         Status::Aborted => " aborted",
@@ -165,7 +166,7 @@ fn show_parts(answer: &mut Answer, parts: NodeParts, xid: Xid) {
     });
     answer.field(
         ", latest completed ",
-        parts.state.known.latest_completed().0,
+        transactions.known.latest_completed().0,
     );
     answer.say(",");
 }

@@ -1,3 +1,4 @@
 pub mod BlockRows
 pub mod Meaning
 pub mod Printed
+pub mod Scans

@@ -4,7 +4,7 @@ use Rattle.std.proofs.lemmas.Option.{none-some}
 use Rattle.std.proofs.lemmas.Bool.{ltb-false}
 use Rattle.std.proofs.lemmas.List.{at_drop_more}
 use Rattle.session_text.specs.Requests.{is_digit, number_after, number_of}
-use Rattle.session_text.specs.Digits.{if_small, next_value}
+use Rattle.session_text.specs.Digits.{next_value}
 
 abbrev value : Option ℕ → ℕ
 value None = 0

@@ -1,7 +1,7 @@
 -- A number that is allowed is asked with, and no other.
-use Rattle.std.proofs.Common.{◌≡◌, ℕ, ◌-◌, ◌^◌, ◌≤◌, ◌<◌, Bool, true, false, Option, Some, None, nat_le, ◌&&◌, refl, sym, subst, ap, arith, if◌then◌else◌}
+use Rattle.std.proofs.Common.{◌≡◌, ℕ, ◌^◌, ◌≤◌, ◌<◌, Bool, true, false, Option, Some, None, nat_le, ◌&&◌, refl, sym, subst, arith, if◌then◌else◌}
 use Rattle.std.proofs.lemmas.Bool.{false≢true, leb-true, le-leb}
-use Rattle.session_text.specs.Requests.{Request, Unreadable, number_of, within}
+use Rattle.session_text.specs.Requests.{Request, Unreadable, within}
 
 chosen : (low high : Bool) (r : Request) → low ≡ true → high ≡ true → r ≡ (if low && high then r else Unreadable)
 chosen true true r l h = refl

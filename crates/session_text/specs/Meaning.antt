@@ -1,5 +1,4 @@
 -- What a request of the code means.
-use Rattle.std.specs.Prelude.{ℕ, List}
 use Rattle.session_text.specs.Requests as model
 use Rattle.session_text.specs.declared.request.Request.{Request}
 use Rattle.session_text.specs.declared.request.Request.TheVariants as request

@@ -1,6 +1,7 @@
 -- What a line of a session asks.
 use Rattle.std.specs.Prelude.{ℕ, ◌+◌, ◌-◌, ◌*◌, ◌^◌, ◌==◌, ◌&&◌, Bool, List, [], ◌∷◌, length, nat_eq, nat_le, nat_lt, if◌then◌else◌, codes, Option, Some, None}
 use Rattle.std.specs.Cmp.Lexicographic.{pointwise}
+use Rattle.std.specs.List.{list_any}
 use Rattle.std.specs.Str.{is_utf8}
 use Rattle.session_text.specs.Lines.{lines_read, lines_taken, longest, pieces}
 
@@ -55,9 +56,16 @@ asked_by (command ∷ []) = if is command (codes "status") then AsksStatus else 
 asked_by (command ∷ word ∷ []) = asked_of command word
 asked_by (command ∷ word ∷ further ∷ words) = Unreadable
 
--- what a line asks: nothing that is understood where it is too long
+-- a carriage return stands in a line
+unfoldable pub has_return : List ℕ → Bool
+has_return line = list_any (λ c. c == 13) line
+
+abbrev pub asked_without_return : List ℕ → Request
+asked_without_return line = if has_return line then Unreadable else asked_by (pieces 32 line)
+
+-- what a line asks: nothing that is understood where it is too long or a carriage return stands in it
 unfoldable pub request_of : List ℕ → Request
-request_of line = if nat_lt longest (length line) then Unreadable else asked_by (pieces 32 line)
+request_of line = if nat_lt longest (length line) then Unreadable else asked_without_return line
 
 unfoldable pub requests_of : List (List ℕ) → List Request
 requests_of [] = []

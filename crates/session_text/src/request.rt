@@ -1,6 +1,7 @@
 ghost use Rattle.std.specs.Prelude.{◌≡◌, ◌∷◌, [], ◌-◌, ◌^◌};
+ghost use Rattle.session_text.specs.Lines.{pieces};
 ghost use Rattle.session_text.specs.Meaning.{asked};
-ghost use Rattle.session_text.specs.Requests.{Closes, Reads, Replays, asked_by, asked_of, number_of, opening, request_of, within};
+ghost use Rattle.session_text.specs.Requests.{Closes, Reads, Replays, asked_by, asked_of, has_return, number_of, opening, request_of, within};
 
 use crate::word::{cut, read_number};
 
@@ -25,13 +26,29 @@ pub enum Request<'a> {
 }
 
 /// What a line asks. The line stands without its end.
-#[tactic(auto, using(crate::proofs::Words::too_long, crate::proofs::Words::one_word, crate::proofs::Words::two_words, crate::proofs::Words::more_words))]
+#[tactic(auto, using(crate::proofs::Words::too_long, crate::proofs::Words::with_return, crate::proofs::Words::without_return))]
 pub fn read_request(line: &[u8]) -> Request<'_>
     ensures { asked result ≡ request_of line.now }
 {
-    if line.len() > LONGEST {
+    if line.len() > LONGEST || has_return(line) {
         return Request::Unreadable;
     }
+    read_line(line)
+}
+
+/// Whether a carriage return stands in a line.
+#[tactic(auto, unfolding(crate::specs::Requests::has_return))]
+fn has_return(line: &[u8]) -> bool
+    ensures { result ≡ has_return line.now }
+{
+    line.iter().any(|byte| *byte == b'\r')
+}
+
+/// What the words of a line ask.
+#[tactic(auto, using(crate::proofs::Words::one_word))]
+fn read_line(line: &[u8]) -> Request<'_>
+    ensures { asked result ≡ asked_by (pieces 32 line.now) }
+{
     match cut(line) {
         None => read_command(line),
         Some((command, rest)) => match cut(rest) {

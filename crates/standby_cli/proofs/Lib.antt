@@ -1,11 +1,7 @@
 pub mod Appending
-pub mod Described
-pub mod Faults
+pub mod Beginning
+pub mod Begins
+pub mod Ending
 pub mod Legal
-pub mod Opening
-pub mod Pages
-pub mod Printed
-pub mod Replaying
-pub mod Starting
-pub mod Statuses
-pub mod Words
+pub mod Program
+pub mod Running

@@ -1,4 +1,4 @@
-pub mod Front
+pub mod Endings
+pub mod LegalRun
 pub mod Meaning
-pub mod Outcome
-pub mod Replays
+pub mod Watched

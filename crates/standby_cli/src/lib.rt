@@ -1,13 +1,10 @@
-//! The commands of the standby, over whatever archive, base folder and sink they are given.
+//! The commands of the standby, over whatever archive, base folder, source and sink they are given.
 #![tactic(auto)]
 
-mod answer;
-mod replay;
-mod reply;
-mod scan;
-mod schema;
-mod text;
+mod begin;
+mod fault;
+mod reject;
+mod run;
 mod top;
-mod write;
 
 pub use top::standby_main;

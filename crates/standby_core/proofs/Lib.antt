@@ -1,2 +1,5 @@
+pub mod Opening
+pub mod Paged
+pub mod Places
 pub mod Refusing
 pub mod Replaying

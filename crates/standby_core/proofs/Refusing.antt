@@ -10,17 +10,17 @@ use Rattle.page_store.specs.Seen.{Seen, View}
 use Rattle.heap_redo.specs.Redone.{Outcome, and_then, redone, redone_at, redone_block, redone_in, table_of, view_by}
 use Rattle.heap_redo.specs.Refused.{fault_at}
 
-fault_not_memory : (rec : Rec) (block : RecBlock) (refusal : BlockRefusal) → fault_at rec block refusal ≡ Memory → ⊥
+fault_not_memory : (block : RecBlock) (refusal : BlockRefusal) → fault_at block refusal ≡ Memory → ⊥
 unfolding fault_at
-fault_not_memory rec block no_page e = cc
-fault_not_memory rec block (no_tuple line) e = cc
-fault_not_memory rec block (page_full line) e = cc
-fault_not_memory rec block bad_page e = cc
+fault_not_memory block no_page e = cc
+fault_not_memory block (no_tuple line) e = cc
+fault_not_memory block (page_full line) e = cc
+fault_not_memory block bad_page e = cc
 
 by_not_memory : (rec : Rec) (block : RecBlock) (view : View) (table : ℕ) (left : Result Seen BlockRefusal)
     → view_by rec block view (record { table = table; block = block.block }) left ≡ Err Memory → ⊥
 by_not_memory rec block view table (Ok seen) e = cc
-by_not_memory rec block view table (Err refusal) e = fault_not_memory rec block refusal cc
+by_not_memory rec block view table (Err refusal) e = fault_not_memory block refusal cc
 
 in_not_memory : (rec : Rec) (block : RecBlock) (view : View) (table : Option ℕ) → redone_in rec block view table ≡ Err Memory → ⊥
 in_not_memory rec block view None e = cc

@@ -1,6 +1,6 @@
 -- The steps of a replay put together.
-use Rattle.std.proofs.Common.{◌≡◌, ◌⊎◌, inl, inr, ℕ, zero, suc, ◌+◌, ◌-◌, ◌≤◌, ◌^◌, List, Option, Some, None, Result, Ok, Err, refl, sym, ◌∙◌, ap, subst, arith, true}
-use Rattle.std.specs.Prelude.{IfSome, IsTrue}
+use Rattle.std.proofs.Common.{◌≡◌, inl, inr, ℕ, List, Option, Some, None, Result, Ok, Err, refl, sym, ◌∙◌, ap, subst}
+use Rattle.std.specs.Prelude.{IfSome}
 use Rattle.pg_types.specs.declared.names.Locator.{Locator}
 use Rattle.pg_types.specs.declared.names.Lsn.{Lsn}
 use Rattle.wal_record.specs.declared.types.PrevRule.TheVariants.{Is}
@@ -67,14 +67,14 @@ body_refused start end node found (body.Unsupported what) e = by_record (log.Uns
 -- where redo refuses a record, it is refused at its blocks
 pub blocks_stopped : (rec : Rec) (known : List Locator) (old new : View) (fault : RedoFault)
     → Stands rec known old new (Err fault) → TypedRedone rec known (Err (stopped_by (redo_refusal fault))) old new
-blocks_stopped rec known old new (redo.PageMissing lsn place) (inl h) = let e = h.0 in cc
-blocks_stopped rec known old new (redo.PageMissing lsn place) (inr e) = (redo.PageMissing lsn place, e, refl)
-blocks_stopped rec known old new (redo.NoTuple lsn place) (inl h) = let e = h.0 in cc
-blocks_stopped rec known old new (redo.NoTuple lsn place) (inr e) = (redo.NoTuple lsn place, e, refl)
-blocks_stopped rec known old new (redo.PageFull lsn place) (inl h) = let e = h.0 in cc
-blocks_stopped rec known old new (redo.PageFull lsn place) (inr e) = (redo.PageFull lsn place, e, refl)
-blocks_stopped rec known old new (redo.BadPage lsn place) (inl h) = let e = h.0 in cc
-blocks_stopped rec known old new (redo.BadPage lsn place) (inr e) = (redo.BadPage lsn place, e, refl)
+blocks_stopped rec known old new (redo.PageMissing place) (inl h) = let e = h.0 in cc
+blocks_stopped rec known old new (redo.PageMissing place) (inr e) = (redo.PageMissing place, e, refl)
+blocks_stopped rec known old new (redo.NoTuple place) (inl h) = let e = h.0 in cc
+blocks_stopped rec known old new (redo.NoTuple place) (inr e) = (redo.NoTuple place, e, refl)
+blocks_stopped rec known old new (redo.PageFull place) (inl h) = let e = h.0 in cc
+blocks_stopped rec known old new (redo.PageFull place) (inr e) = (redo.PageFull place, e, refl)
+blocks_stopped rec known old new (redo.BadPage place) (inl h) = let e = h.0 in cc
+blocks_stopped rec known old new (redo.BadPage place) (inr e) = (redo.BadPage place, e, refl)
 blocks_stopped rec known old new redo.Memory (inl h) = inr h.1
 blocks_stopped rec known old new redo.Memory (inr e) = absurd (redone_not_memory rec known rec.blocks old new e)
 

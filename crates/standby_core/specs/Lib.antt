@@ -2,3 +2,5 @@ pub mod Standby
 pub mod Replay
 pub mod Steps
 pub mod View
+pub mod Scans
+pub mod Pages

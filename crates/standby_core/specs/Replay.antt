@@ -55,10 +55,10 @@ refusal_of (log.Unsupported what) = Unsupported what
 
 -- the refusal that a fault of redo is; none for want of memory
 abbrev pub redo_refusal : RedoFault → Option Refusal
-redo_refusal (redo.PageMissing lsn place) = Some (NoPage place.block)
-redo_refusal (redo.NoTuple lsn place) = Some (NoTuple place)
-redo_refusal (redo.PageFull lsn place) = Some (PageFull place)
-redo_refusal (redo.BadPage lsn place) = Some (BadPage place.block)
+redo_refusal (redo.PageMissing place) = Some (NoPage place.block)
+redo_refusal (redo.NoTuple place) = Some (NoTuple place)
+redo_refusal (redo.PageFull place) = Some (PageFull place)
+redo_refusal (redo.BadPage place) = Some (BadPage place.block)
 redo_refusal redo.Memory = None
 
 -- why the record at the node's position is refused: by its form or its body, or by the blocks that it changes, of which

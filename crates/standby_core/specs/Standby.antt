@@ -1,5 +1,5 @@
 -- A node as contracts see it.
-use Rattle.std.specs.Prelude.{ℕ, [], Option, Some}
+use Rattle.std.specs.Prelude.{ℕ, List, [], length, Option, Some, is_some}
 use Rattle.pg_types.specs.declared.names.Lsn.{Lsn}
 use Rattle.wal_record.specs.declared.types.PrevRule.{PrevRule}
 use Rattle.wal_record.specs.declared.types.PrevRule.TheVariants.{Below}
@@ -9,6 +9,8 @@ use Rattle.page_store.specs.Seen.{View}
 use Rattle.table_schema.specs.Description.{Description, locators}
 use Rattle.xact_redo.specs.State.{TransactionState, before_records}
 use Rattle.standby_model.specs.Log.{Described}
+use Rattle.standby_core.specs.declared.scans.NodeScan.{NodeScan}
+use Rattle.standby_core.specs.declared.types.NodeStatus.{NodeStatus}
 use Rattle.standby_core.specs.declared.types.Origin.{Origin}
 
 pub record Standby : Type 0 where
@@ -26,6 +28,9 @@ pub record Standby : Type 0 where
   -- the blocks of the described tables, and what is known of transactions
   pub blocks : View
   pub transactions : TransactionState
+  -- the open scans, in the order of their opening, and the id of the next one
+  pub scans : List NodeScan
+  pub next_id : ℕ
   -- what is kept of the log
   pub kept : Kept
 
@@ -42,6 +47,8 @@ at_origin tables origin blocks = record {
   awaited = Some origin.redo;
   blocks = blocks;
   transactions = before_records;
+  scans = [];
+  next_id = 1;
   kept = record { from = 0; bytes = [] };
 }
 
@@ -56,3 +63,14 @@ described_in tables = record { database = tables.database; files = locators tabl
 -- what is described to the node
 abbrev pub described_to : Standby → Described
 described_to node = described_in node.tables
+
+-- where a node stands, on the first timeline
+unfoldable pub node_status : Standby → NodeStatus
+node_status node = record {
+  tli = record { 0 = 1 };
+  at = node.at;
+  min = node.min;
+  awaited = is_some node.awaited;
+  state = node.transactions.known.mode;
+  scans = length node.scans;
+}

@@ -1,13 +1,11 @@
 -- The node's own parts as contracts see them.
-use Rattle.std.specs.Prelude.{◌≡◌, ℕ, length, Option, IfSome, is_some, Result}
-use Rattle.page_store.specs.Content.{content, table_count}
+use Rattle.std.specs.Prelude.{ℕ, Option, IfSome, Result}
+use Rattle.page_store.specs.Content.{content}
 use Rattle.page_store.specs.Seen.{view_of}
 use Rattle.wal_reader.specs.Kept.{AreTold}
 use Rattle.xact_redo.specs.State.{transactions}
 use Rattle.standby_core.specs.declared.node.Node.{Node}
 use Rattle.standby_core.specs.declared.types.NodeFault.{NodeFault}
-use Rattle.standby_core.specs.declared.types.NodeParts.{NodeParts}
-use Rattle.standby_core.specs.declared.types.NodeStatus.{NodeStatus}
 use Rattle.standby_core.specs.declared.types.Replayed.{Replayed}
 use Rattle.standby_model.specs.Log.{record_at}
 use Rattle.standby_core.specs.Standby.{Standby, described_to, told_to}
@@ -24,6 +22,8 @@ standby node = record {
   awaited = node.awaited;
   blocks = view_of (content node.pool);
   transactions = transactions node.state;
+  scans = node.scans.open.items;
+  next_id = node.scans.next_id;
   kept = node.reader.source.kept;
 }
 
@@ -33,21 +33,3 @@ abbrev pub ReplaysTold : Option (ℕ → Option ℕ) → Result Replayed NodeFau
 ReplaysTold told result old new =
     IfSome told (λ byte. AreTold byte old.kept
     → AreTold byte new.kept × Replays result old new (record_at (told_to old byte) (described_to old) old.at.0 old.prev))
-
--- where a node stands, on the first timeline
-unfoldable pub node_status : Standby → NodeStatus
-node_status node = record {
-  tli = record { 0 = 1 };
-  at = node.at;
-  min = node.min;
-  awaited = is_some node.awaited;
-  state = node.transactions.known.mode;
-}
-
--- the description, the blocks and the state of transactions in a node's parts, and a pool of as many tables as are
--- described
-pub record HasParts (parts : NodeParts) (node : Standby) : Type 0 where
-  pub description : parts.tables ≡ node.tables
-  pub tables : table_count parts.pool ≡ length node.tables.tables
-  pub blocks : view_of (content parts.pool) ≡ node.blocks
-  pub transactions : transactions parts.state ≡ node.transactions

@@ -1,9 +1,13 @@
 //! The node of a standby: it replays a log record by record into the blocks of the described tables and
-//! the state of transactions (xlogrecovery.c, PerformWalRecovery).
+//! the state of transactions (xlogrecovery.c, PerformWalRecovery), and gives the rows of tables to scans
+//! that are open meanwhile.
 #![tactic(auto)]
 
 mod node;
+mod open;
+mod scans;
 mod types;
 
 pub use node::Node;
-pub use types::{NodeFault, NodeParts, NodeStatus, Origin, Refusal, Replayed};
+pub use scans::{NodePage, NodeScan, Opened, PrintedPage};
+pub use types::{NodeFault, NodeStatus, Origin, Refusal, Replayed};

@@ -6,10 +6,12 @@ ghost use Rattle.table_schema.specs.Description.{locators};
 ghost use Rattle.page_store.specs.Seen.{view_of};
 ghost use Rattle.wal_bodies.specs.Xids.{AreXidsShort};
 ghost use Rattle.xact_redo.specs.State.{state_after, transactions};
+ghost use Rattle.standby_core.specs.Pages.{AreDescribed};
 ghost use Rattle.standby_core.specs.Replay.{awaited_after, redo_refusal};
 ghost use Rattle.standby_core.specs.Steps.{TypedRedone, body_refusal, stopped_by, unread};
 
-use crate::types::{NodeFault, NodeParts, NodeStatus, Origin, Refusal, Replayed, Stopped};
+use crate::scans::Scans;
+use crate::types::{NodeFault, NodeStatus, Origin, Refusal, Replayed, Stopped};
 use heap_redo::RedoFault;
 use outside::Archive;
 use page_store::Pool;
@@ -26,20 +28,22 @@ use xact_redo::{XactState, reserve};
 /// replay stands and after which record, and the end of the backup that is awaited.
 #[derive(Drop)]
 pub struct Node {
-    alloc: Global,
-    tables: Tables,
+    pub(crate) alloc: Global,
+    pub(crate) tables: Tables,
     segsize: u32,
     reader: Reader,
     /// The reader's position.
-    at: Lsn,
-    pool: Pool,
-    state: XactState,
+    pub(crate) at: Lsn,
+    pub(crate) pool: Pool,
+    pub(crate) state: XactState,
     min: Lsn,
     awaited: Option<Lsn>,
+    pub(crate) scans: Scans,
     ghost described: { table_count pool ≡ length tables.tables },
     ghost allowed: { IsSegmentSize segsize } by { IsSegmentSize-prop segsize },
     ghost same_size: { reader.source.segsize ≡ segsize },
     ghost same_at: { reader.at.0 ≡ at.0 },
+    ghost scanned: { AreDescribed tables scans.open.items },
 }
 
 impl Node {
@@ -50,10 +54,10 @@ impl Node {
     ghost use Rattle.wal_reader.specs.Calls.{WhereTold};
     ghost use Rattle.wal_reader.specs.Standing.{Answers, BearsPosition, MovesOn as ReadsOn, StandsStill};
     ghost use Rattle.wal_reader.specs.Step.{step};
-    ghost use Rattle.standby_core.specs.Standby.{at_origin};
+    ghost use Rattle.standby_core.specs.Standby.{at_origin, node_status};
     ghost use Rattle.standby_core.specs.Replay.{MovesOn, ReplaysSome, StaysUnlessApplied};
     ghost use Rattle.standby_core.specs.Steps.{EndsAt, GivenRedone, GivenReplays, Gives};
-    ghost use Rattle.standby_core.specs.View.{HasParts, ReplaysTold, standby, node_status};
+    ghost use Rattle.standby_core.specs.View.{ReplaysTold, standby};
 
     /// A node at an origin, over a pool that was made for as many tables as are described. It awaits the end
     /// of the backup that began at the redo position.
@@ -85,11 +89,12 @@ impl Node {
             state: XactState::new(alloc),
             min: origin.redo,
             awaited: Some(origin.redo),
+            scans: Scans::new(alloc),
         })
     }
 
     /// Where the node stands. It takes no memory.
-    #[tactic(auto, unfolding(crate::specs::View::standby, crate::specs::View::node_status))]
+    #[tactic(auto, unfolding(crate::specs::View::standby, crate::specs::Standby::node_status))]
     pub fn status(&self) -> NodeStatus
         ensures { result ≡ node_status (standby self.now) }
     {
@@ -99,6 +104,7 @@ impl Node {
             min: self.min,
             awaited: self.awaited.is_some(),
             state: self.state.known.state(),
+            scans: self.scans.count(),
         }
     }
 
@@ -110,22 +116,12 @@ impl Node {
         &self.tables
     }
 
-    /// Takes the node apart. It takes no memory.
+    /// The state of transactions.
     #[tactic(auto, unfolding(crate::specs::View::standby))]
-    pub fn parts(self) -> NodeParts
-        ensures { HasParts result (standby self) }
+    pub fn transactions(&self) -> &XactState
+        ensures { transactions result.now ≡ (standby self.now).transactions }
     {
-        let Node {
-            tables,
-            pool,
-            state,
-            ..
-        } = self;
-        NodeParts {
-            tables,
-            pool,
-            state,
-        }
+        &self.state
     }
 
     /// Replays the record at the node's position: its blocks are changed, then the state of transactions,
@@ -292,10 +288,10 @@ fn stopped_at(fault: RedoFault) -> Stopped
     ensures { result ≡ stopped_by (redo_refusal fault) }
 {
     Stopped::Refused(match fault {
-        RedoFault::PageMissing { place, .. } => Refusal::NoPage { block: place.block },
-        RedoFault::NoTuple { place, .. } => Refusal::NoTuple { place },
-        RedoFault::PageFull { place, .. } => Refusal::PageFull { place },
-        RedoFault::BadPage { place, .. } => Refusal::BadPage { block: place.block },
+        RedoFault::PageMissing { place } => Refusal::NoPage { block: place.block },
+        RedoFault::NoTuple { place } => Refusal::NoTuple { place },
+        RedoFault::PageFull { place } => Refusal::PageFull { place },
+        RedoFault::BadPage { place } => Refusal::BadPage { block: place.block },
         RedoFault::Memory => return Stopped::Memory,
     })
 }

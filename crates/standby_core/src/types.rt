@@ -1,11 +1,8 @@
 use known_assigned::State;
-use page_store::Pool;
 use pg_types::{Lsn, NoMemory, Place, Tli};
-use table_schema::Tables;
 use thiserror::Error;
 use wal_bodies::What;
 use wal_reader::EndWhy;
-use xact_redo::XactState;
 
 /// Where a standby's log begins, with neither rows nor statuses.
 #[derive(Clone, Copy, Debug, PartialEq, Eq)]
@@ -71,14 +68,8 @@ pub struct NodeStatus {
     pub awaited: bool,
     /// How far the running transactions are known.
     pub state: State,
-}
-
-/// What a node is taken apart into.
-#[derive(Drop)]
-pub struct NodeParts {
-    pub tables: Tables,
-    pub pool: Pool,
-    pub state: XactState,
+    /// How many scans are open.
+    pub scans: u8,
 }
 
 impl From<NoMemory> for NodeFault {

@@ -9,7 +9,7 @@ use Rattle.toml.proofs.Views.{items_view-drop}
 use Rattle.heap_tuple.specs.declared.cell.Cell.{Cell}
 use Rattle.heap_tuple.specs.declared.cell.Column.{Column}
 use Rattle.table_schema.specs.declared.fault.SchemaFault.{SchemaFault}
-use Rattle.table_schema.specs.declared.fault.SchemaFault.TheVariants.{Long, Toml, Field, Twice, Many, Memory}
+use Rattle.table_schema.specs.declared.fault.SchemaFault.TheVariants.{TooLong, Toml, Field, Twice, Many, Memory}
 use Rattle.table_schema.specs.declared.fault.Key.TheVariants.{Database, Column as ColumnKey, Other}
 use Rattle.table_schema.specs.declared.members.Level.TheVariants.{Top}
 use Rattle.table_schema.specs.Description.{Description, DescribedTable, first_that}
@@ -18,7 +18,7 @@ use Rattle.table_schema.specs.RowText.{cell_text, further_text, dash_before, hex
 
 -- a refusal says itself
 says_itself : (A : Type 0) (fault : SchemaFault) → SaysFault {A = A} fault (Err fault)
-says_itself A Long = refl
+says_itself A TooLong = refl
 says_itself A Toml = refl
 says_itself A (Field table key) = refl
 says_itself A (Twice name) = refl
@@ -31,7 +31,7 @@ says_refusal {A} fault expected e = rw e (says_itself A fault)
 
 -- a step's refusal is that of the whole
 pub says_onward : {A B : Type 0} (fault : SchemaFault) (step : Result A SchemaFault) (rest : A → Result B SchemaFault) → SaysFault fault step → SaysFault fault (step >>= rest)
-says_onward Long step rest e = ap (λ r. r >>= rest) e
+says_onward TooLong step rest e = ap (λ r. r >>= rest) e
 says_onward Toml step rest e = ap (λ r. r >>= rest) e
 says_onward (Field table key) step rest e = ap (λ r. r >>= rest) e
 says_onward (Twice name) step rest e = ap (λ r. r >>= rest) e
@@ -45,7 +45,7 @@ says_along fault x y e h = rw (← e) h
 -- an answer that is not want of memory is the one that is expected
 pub says_exactly : {A : Type 0} (r expected : Result A SchemaFault) → Says r expected → r ≢ Err Memory → r ≡ expected
 says_exactly (Ok x) expected h n = sym h
-says_exactly (Err Long) expected h n = sym h
+says_exactly (Err TooLong) expected h n = sym h
 says_exactly (Err Toml) expected h n = sym h
 says_exactly (Err (Field table key)) expected h n = sym h
 says_exactly (Err (Twice name)) expected h n = sym h

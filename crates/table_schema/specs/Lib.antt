@@ -1,4 +1,6 @@
 pub mod Description
+pub mod Keys
 pub mod Laws
 pub mod Reading
 pub mod RowText
+pub mod Tables

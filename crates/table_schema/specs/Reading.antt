@@ -14,7 +14,7 @@ use Rattle.heap_tuple.specs.declared.cell.Kind.TheVariants.{Bool as BoolKind, In
 use Rattle.table_schema.specs.declared.fault.Key.{Key}
 use Rattle.table_schema.specs.declared.fault.Key.TheVariants.{Database, Table, Name, Oid, File, Column as ColumnKey, Kind as KindKey, Missing, Other}
 use Rattle.table_schema.specs.declared.fault.SchemaFault.{SchemaFault}
-use Rattle.table_schema.specs.declared.fault.SchemaFault.TheVariants.{Long, Toml, Field, Twice, Many, Memory}
+use Rattle.table_schema.specs.declared.fault.SchemaFault.TheVariants.{TooLong, Toml, Field, Twice, Many, Memory}
 use Rattle.table_schema.specs.declared.members.Level.{Level}
 use Rattle.table_schema.specs.declared.members.Level.TheVariants.{Top, OfTable, OfColumn}
 use Rattle.table_schema.specs.Description.{Description, DescribedTable, first_that, is_named, has_oid, has_file}
@@ -198,7 +198,7 @@ answer_of (Some members) = description_in members
 -- the answer to a text of at most 1 MiB, or to a longer one
 abbrev pub AnswersUpTo : Bool → List ℕ → Result Description SchemaFault → Type 0
 AnswersUpTo true text answer = (document : Option Members) × IsDocumentOf text document × (answer ≡ answer_of document)
-AnswersUpTo false text answer = answer ≡ Err Long
+AnswersUpTo false text answer = answer ≡ Err TooLong
 
 abbrev pub Answers : List ℕ → Result Description SchemaFault → Type 0
 Answers text answer = AnswersUpTo (nat_le (length text) 1048576) text answer
@@ -209,7 +209,7 @@ IsAnswer text answer = answer ≢ Err Memory → Answers text answer
 
 -- an answer is the one that is expected, unless memory is wanting
 abbrev pub SaysFault : {A : Type 0} → SchemaFault → Result A SchemaFault → Type 0
-SaysFault Long expected = expected ≡ Err Long
+SaysFault TooLong expected = expected ≡ Err TooLong
 SaysFault Toml expected = expected ≡ Err Toml
 SaysFault (Field table key) expected = expected ≡ Err (Field table key)
 SaysFault (Twice name) expected = expected ≡ Err (Twice name)

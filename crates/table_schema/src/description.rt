@@ -20,7 +20,7 @@ pub fn read_schema(alloc: Global, text: &[u8]) -> Result<Tables, SchemaFault>
     ensures { IsAnswer text.now result }
 {
     if 1048576 < text.len() {
-        return Err(SchemaFault::Long);
+        return Err(SchemaFault::TooLong);
     }
     match toml::table_from_slice(alloc, text) {
         Ok(members) => description_in(alloc, &members),

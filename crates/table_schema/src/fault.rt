@@ -1,3 +1,6 @@
+ghost use Rattle.std.specs.Prelude.{◌≡◌};
+ghost use Rattle.table_schema.specs.Keys.{key_text};
+
 use crate::name::Name;
 use pg_types::NoMemory;
 use std::alloc::AllocFailed;
@@ -17,13 +20,32 @@ pub enum Key {
     Other,
 }
 
+impl Key {
+    /// The key as a description writes it, and `other` for one that its level does not have.
+    pub fn word(self) -> &'static str
+        ensures { result.now ≡ key_text self }
+    {
+        match self {
+            Key::Database => "database",
+            Key::Table => "table",
+            Key::Name => "name",
+            Key::Oid => "oid",
+            Key::File => "file",
+            Key::Column => "column",
+            Key::Kind => "type",
+            Key::Missing => "missing",
+            Key::Other => "other",
+        }
+    }
+}
+
 /// Why a text is no description. The first test that fails decides, in the text's order of tables and
 /// columns, and in each of them in the order of `Key`.
 #[derive(Debug, Drop, Error)]
 pub enum SchemaFault {
     /// The text has more than 1 MiB.
     #[error("the text is too long")]
-    Long,
+    TooLong,
     /// The text is no UTF-8, or no TOML.
     #[error("the text is no TOML")]
     Toml,

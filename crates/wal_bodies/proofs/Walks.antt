@@ -1,15 +1,17 @@
 -- Steps of the walks over the tuples of a multi-insert and over the blocks of a record.
-use Rattle.std.proofs.Common.{◌≡◌, ℕ, zero, suc, ◌+◌, ◌-◌, ◌<◌, ◌≤◌, Bool, true, false, List, [], ◌∷◌, ◌++◌, Option, Some, None, Result, Ok, Err, refl, sym, subst, ◌∙◌, ap, arith}
+use Rattle.std.proofs.Common.{◌≡◌, ℕ, zero, suc, ◌+◌, ◌-◌, ◌<◌, ◌≤◌, Bool, true, false, List, [], ◌∷◌, ◌++◌, Option, Some, None, Result, Ok, Err, refl, sym, subst, ◌∙◌, ap, arith, inl, inr, ◌⊎◌, ◌≢◌, ◌==◌, cond, option_map}
 use Rattle.std.specs.Prelude.{IsOk, drop, length}
-use Rattle.std.proofs.lemmas.Bool.{false≢true}
-use Rattle.wal_record.specs.Record.{Block, Record}
+use Rattle.std.proofs.lemmas.Bool.{false≢true, cases_eq}
+use Rattle.std.proofs.lemmas.Bool.Decides.{nat_tests}
+use Rattle.std.proofs.lemmas.Option.{same_Some}
+use Rattle.wal_record.specs.Record.{Block, Record, block_by_id}
 use Rattle.wal_bodies.specs.declared.types.BodyFault.{BodyFault}
 use Rattle.wal_bodies.specs.declared.types.NewTuple.{NewTuple}
 use Rattle.wal_bodies.specs.declared.types.RecBlock.{RecBlock}
-use Rattle.wal_bodies.specs.Fields.{◌>>=◌, result_map, main_block}
+use Rattle.wal_bodies.specs.Fields.{◌>>=◌, result_map, if_main, main_block}
 use Rattle.wal_bodies.specs.Tuples.{even_from, listed_at, listed_from, tuple_with}
-use Rattle.wal_bodies.specs.Typed.{block_with, listed_block, blocks_from, blocks_of}
-use Rattle.wal_bodies.specs.Stored.{AreListed, DoTuplesStand, if_read, tuples_held, tuples_for, blocks_to}
+use Rattle.wal_bodies.specs.Typed.{block_with, listed_block, blocks_from, blocks_of, number_of}
+use Rattle.wal_bodies.specs.Stored.{AreListed, DoTuplesStand, if_read, tuples_held, tuples_for, blocks_to, blocks_held}
 
 -- whether as many tuples are there
 abbrev pub checked : List ℕ → ℕ → ℕ → Result (Unit {0}) BodyFault
@@ -137,3 +139,71 @@ unfolding blocks_to
 next_none rec tuples id ids bound = at (ids - id) (omega arith) where
   at : (m : ℕ) → m ≡ 0 → blocks_to rec tuples id m ≡ []
   at m e = rw e refl
+
+eqb-same : (a b : ℕ) → a ≡ b → (a == b) ≡ true
+eqb-same a b e = grind (arith, nat_tests)
+
+eqb-other : (a b : ℕ) → a ≢ b → (a == b) ≡ false
+eqb-other a b e = grind (arith, nat_tests)
+
+-- the block with an id has it
+by_id-has : (id : ℕ) (blocks : List Block) (block : Block) → block_by_id id blocks ≡ Some block → block.id ≡ id
+by_id-has id [] block e = absurd (cc)
+by_id-has id (first ∷ blocks) block e =
+    elim (cases_eq first.id id) [
+      | inl same ↦ subst (λ (b : Block). b.id ≡ id) (same_Some _ _ (sym (ap (λ t. cond t (Some first) (block_by_id id blocks)) (eqb-same first.id id same)) ∙ e)) same
+      | inr other ↦ by_id-has id blocks block (sym (ap (λ t. cond t (Some first) (block_by_id id blocks)) (eqb-other first.id id other)) ∙ e)
+    ]
+
+main-is : (found : Option Block) (block : Block) → if_main found ≡ Some block → found ≡ Some block
+main-is None block e = absurd (cc)
+main-is (Some x) block e = at (x.fork == 0) e where
+  at : (t : Bool) → cond t (Some x) None ≡ Some block → Some x ≡ Some block
+  at true h = h
+  at false h = absurd (cc)
+
+-- its number, of a block that is listed in front of others
+front-number : (id : ℕ) (tuples : List NewTuple) (found : Option Block) (others : List RecBlock) → ((block : Block) → found ≡ Some block → block.id ≡ id)
+    → number_of id others ≡ None → number_of id (listed_block tuples found ++ others) ≡ option_map (λ (block : Block). block.block) found
+front-number id tuples None others has none = none
+front-number id tuples (Some block) others has none = ap (λ t. cond t (Some block.block) (number_of id others)) (eqb-same block.id id (has block refl))
+
+front-other : (id from : ℕ) (tuples : List NewTuple) (found : Option Block) (others : List RecBlock) → ((block : Block) → found ≡ Some block → block.id ≡ from)
+    → (from ≢ id) → number_of id (listed_block tuples found ++ others) ≡ number_of id others
+front-other id from tuples None others has other = refl
+front-other id from tuples (Some block) others has other =
+    ap (λ t. cond t (Some block.block) (number_of id others)) (eqb-other block.id id (λ e. other (sym (has block refl) ∙ e)))
+
+has-id : (rec : Record) (from : ℕ) (block : Block) → main_block from rec ≡ Some block → block.id ≡ from
+has-id rec from block e = by_id-has from rec.blocks block (main-is (block_by_id from rec.blocks) block e)
+
+-- no block outside of a range of ids is listed
+pub number-outside : (rec : Record) (tuples : List NewTuple) (id from n : ℕ) → (id < from) ⊎ (from + n ≤ id) → number_of id (blocks_to rec tuples from n) ≡ None
+unfolding blocks_to
+number-outside rec tuples id from zero h = refl
+number-outside rec tuples id from (suc n) h =
+    front-other id from (tuples_for from tuples) (main_block from rec) (blocks_to rec tuples (from + 1) n) (has-id rec from)
+    (λ e. elim h [ inl low ↦ omega (arith, low, e) | inr past ↦ omega (arith, past, e) ])
+    ∙ number-outside rec tuples id (from + 1) n (elim h [ inl low ↦ inl (omega (arith, low)) | inr past ↦ inr (omega (arith, past)) ])
+
+-- the number of a block whose id is inside
+pub number-inside : (rec : Record) (tuples : List NewTuple) (id from n : ℕ) → from ≤ id → id < from + n
+    → number_of id (blocks_to rec tuples from n) ≡ option_map (λ (block : Block). block.block) (main_block id rec)
+unfolding blocks_to
+number-inside rec tuples id from zero low high = absurd (omega arith)
+number-inside rec tuples id from (suc n) low high =
+    elim (cases_eq from id) [
+      | inl same ↦ here same
+      | inr other ↦ front-other id from (tuples_for from tuples) (main_block from rec) (blocks_to rec tuples (from + 1) n) (has-id rec from) other
+          ∙ number-inside rec tuples id (from + 1) n (omega (arith, low, other)) (omega (arith, high))
+    ] where
+      here : from ≡ id → number_of id (blocks_to rec tuples from (suc n)) ≡ option_map (λ (block : Block). block.block) (main_block id rec)
+      here same =
+          front-number id (tuples_for from tuples) (main_block from rec) (blocks_to rec tuples (from + 1) n) (λ block e. has-id rec from block e ∙ same)
+          (number-outside rec tuples id (from + 1) n (inl (omega (arith, same))))
+          ∙ ap (λ k. option_map (λ (block : Block). block.block) (main_block k rec)) same
+
+pub held-outside : (view : Option Record) (tuples : List NewTuple) (id from ids : ℕ) → from ≤ ids → (id < from) ⊎ (ids ≤ id) → number_of id (blocks_held view tuples from ids) ≡ None
+held-outside None tuples id from ids order h = refl
+held-outside (Some rec) tuples id from ids order h =
+    number-outside rec tuples id from (ids - from) (elim h [ inl low ↦ inl low | inr past ↦ inr (omega (arith, past, order)) ])

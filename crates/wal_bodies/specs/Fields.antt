@@ -1,5 +1,5 @@
 -- Fields of a record's main data and of a block's data, and the steps that may refuse.
-use Rattle.std.specs.Prelude.{ℕ, ◌==◌, Bool, not, bit_and, nat_lt, List, length, drop, Option, Some, None, Result, Ok, Err, if◌then◌else◌}
+use Rattle.std.specs.Prelude.{ℕ, ◌==◌, nat_lt, List, length, drop, Option, Some, None, Result, Ok, Err, if◌then◌else◌}
 use Rattle.pg_types.specs.Numbers.{number_at}
 pub use Rattle.record_fields.specs.Fields.{lsn_at, tli_at, xid_at}
 unfoldable pub use Rattle.record_fields.specs.Fields.{xids_at, lines_at, first_lines}

@@ -1,5 +1,5 @@
 -- The typed form of a record, or why it is refused.
-use Rattle.std.specs.Prelude.{ℕ, zero, suc, ◌+◌, ◌==◌, Bool, false, bit_and, ◌||◌, nat_le, List, [], ◌∷◌, ◌++◌, Option, Some, None, option_map, Result, Ok, Err, if◌then◌else◌}
+use Rattle.std.specs.Prelude.{ℕ, zero, suc, ◌+◌, ◌==◌, Bool, ◌||◌, nat_le, List, [], ◌∷◌, ◌++◌, Option, Some, None, option_map, Result, Ok, Err, if◌then◌else◌}
 use Rattle.std.specs.List.{list_any}
 use Rattle.pg_types.specs.declared.names.Locator.{Locator}
 use Rattle.pg_types.specs.declared.names.Lsn.{Lsn}
@@ -67,6 +67,11 @@ blocks_from rec id (suc n) = listed_block [] (main_block id rec) ++ blocks_from 
 unfoldable pub blocks_of : ℕ → List NewTuple → Record → List RecBlock
 blocks_of zero tuples rec = []
 blocks_of (suc n) tuples rec = listed_block tuples (main_block 0 rec) ++ blocks_from rec 1 n
+
+-- the number of the block with this id, if it is there
+abbrev pub number_of : ℕ → List RecBlock → Option ℕ
+number_of id [] = None
+number_of id (block ∷ blocks) = if block.id == id then Some block.block else number_of id blocks
 
 -- the greatest transaction id, which ends the first epoch, or one past it
 abbrev pub is_last : Xid → Bool

@@ -1,7 +1,7 @@
 ghost use Rattle.std.specs.Prelude.{◌≡◌, ◌≤◌, option_map};
 ghost use Rattle.std.specs.Iterator.{YieldsFirst, item_count};
 ghost use Rattle.wal_record.specs.Views.{block_of_view, image_of_view};
-ghost use Rattle.wal_bodies.specs.Typed.{image_of, block_with, blocks_of};
+ghost use Rattle.wal_bodies.specs.Typed.{image_of, block_with, blocks_of, number_of};
 ghost use Rattle.wal_bodies.specs.Stored.{tuples_for, IsNextBlock};
 
 use crate::fields::main_block;
@@ -62,6 +62,19 @@ impl<'a> RecBlocks<'a> {
             from: 0,
             ids,
             tuples,
+        }
+    }
+
+    /// The number of the block with this id, if that is left. Nothing else is read of it.
+    pub fn number(&self, id: u8) -> Option<u32>
+        ensures { result ≡ number_of id self.now }
+    {
+        if id < self.from || self.ids <= id {
+            return None;
+        }
+        match main_block(self.view?, id) {
+            Some(block) => Some(block.block),
+            None => None,
         }
     }
 

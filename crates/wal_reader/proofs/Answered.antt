@@ -6,16 +6,15 @@ use Rattle.std.specs.Option.{ForSome}
 use Rattle.wal_page.specs.declared.PageHead.{PageHead}
 use Rattle.wal_page.specs.declared.PageFault.{PageFault}
 use Rattle.wal_page.specs.Page.{page_header}
-use Rattle.wal_reader.specs.declared.types.Halt.{Halt}
-use Rattle.wal_reader.specs.declared.types.Halt.TheVariants.{Stops}
+use Rattle.wal_reader.specs.Halt.{Halt, Stops}
 use Rattle.wal_reader.specs.declared.types.NoRecord.TheVariants.{End}
 use Rattle.wal_reader.specs.declared.types.EndWhy.TheVariants.{Missing}
 use Rattle.wal_reader.specs.declared.types.Trouble.{Trouble}
-use Rattle.wal_reader.specs.declared.types.Trouble.TheVariants.{Halts, Log, Memory}
 use Rattle.wal_reader.specs.Told.{Told, told_bytes, header_at, page_header_length, accepted, read_at}
 use Rattle.wal_reader.specs.Kept.{Kept, AreTold}
 use Rattle.wal_reader.specs.Gathered.{place_at, enters, gathered}
 use Rattle.wal_reader.specs.Calls.{Gathering, told_to, WhereTold, Says, SaysBytes, SaysText, SaysPart, less}
+use Rattle.wal_reader.proofs.Halted.{halts-map}
 use Rattle.wal_reader.proofs.GatheredSteps.{gathered_in_page, gathered_missing, gathered_nowhere, gathered_then, gathered_then_err, gathered_err, less-less}
 
 pub where_start : (told : Option (ℕ → Option ℕ)) (owner : ℕ → ℕ) (old : Gathering) (R : Told → Type 0)
@@ -47,11 +46,7 @@ where_chain (Some byte) told' owner owner' old mid next new P Q R t o s z same r
 pub header_wanting : (told : Told) (at size : ℕ) (e : Trouble) (bytes : List ℕ) → size ≡ page_header_length told at
     → SaysBytes {A = Unit {0}} (Err e) bytes (told_bytes told.byte size at) → Says {A = PageHead} (Err e) (header_at told at)
 unfolding header_at
-header_wanting told at size (Halts halt) bytes s says =
-    let none = rw s at says.0 in
-    rw (none, says.1) refl
-header_wanting told at size Log bytes s says = tt
-header_wanting told at size Memory bytes s says = tt
+header_wanting told at size e bytes s says = halts-map e says (λ halt want. let none = rw s at want.0 in rw (none, want.1) refl)
 
 -- a header whose bytes are there
 pub header_there : (told : Told) (at size : ℕ) (bytes piece : List ℕ) (known : Option (ℕ × ℕ)) (tli : Tli) (read : Result PageHead PageFault) (result : Result PageHead Trouble)
@@ -79,29 +74,26 @@ place_behind told missing at len head result start l header says =
 pub place_wanting : (told : Told) (missing : Option ℕ) (at : ℕ) (e : Trouble)
     → at % 8192 ≡ 0 → Says {A = PageHead} (Err e) (header_at told at) → Says {A = ℕ} (Err e) (place_at told missing at)
 unfolding place_at
-place_wanting told missing at (Halts halt) start says = let b : (at % 8192 == 0) ≡ true = eq-eqb (at % 8192) 0 start in rw (b, says) refl
-place_wanting told missing at Log start says = tt
-place_wanting told missing at Memory start says = tt
+place_wanting told missing at e start says =
+    let b : (at % 8192 == 0) ≡ true = eq-eqb (at % 8192) 0 start in
+    halts-map e says (λ halt s. rw (b, s) refl)
 
 -- the bytes of one page
 pub part_nowhere : (told : Told) (missing : Option ℕ) (at left : ℕ) (e : Trouble) (old new : List ℕ) → 0 < left
     → Says {A = ℕ} (Err e) (place_at told missing at) → SaysPart (Err e) left old new (λ n. gathered told missing n at)
-part_nowhere told missing at left (Halts halt) old new some says = gathered_nowhere told left at missing halt says some
-part_nowhere told missing at left Log old new some says = tt
-part_nowhere told missing at left Memory old new some says = tt
+part_nowhere told missing at left e old new some says = halts-map e says (λ halt s. gathered_nowhere told left at missing halt s some)
 
 pub part_wanting : (told : Told) (missing : Option ℕ) (at left place room : ℕ) (e : Trouble) (bytes old new : List ℕ)
     → 0 < room → room ≤ left → place % 8192 + room ≤ 8192
     → place_at told missing at ≡ Ok place → SaysBytes {A = Unit {0}} (Err e) bytes (told_bytes told.byte room place)
     → SaysPart (Err e) left old new (λ n. gathered told missing n at)
-part_wanting told missing at left place room (Halts halt) bytes old new some fits within here says =
-    let none = gathered_missing told room at place missing here some within says.0 in
+part_wanting told missing at left place room e bytes old new some fits within here says =
+    halts-map e says (λ halt want.
+    let none = gathered_missing told room at place missing here some within want.0 in
     let more = gathered_err told room (left - room) at missing (Stops (End Missing)) none in
     let l : room + (left - room) ≡ left = omega arith in
     let m = rw l at more in
-    rw says.1 m
-part_wanting told missing at left place room Log bytes old new some fits within here says = tt
-part_wanting told missing at left place room Memory bytes old new some fits within here says = tt
+    rw want.1 m)
 
 pub part_there : (told : Told) (missing : Option ℕ) (at left place room : ℕ) (bytes old new : List ℕ)
     → 0 < room → room ≤ left → place % 8192 + room ≤ 8192
@@ -131,13 +123,12 @@ pub text_halts : (told : Told) (missing missing' : Option ℕ) (n left at mid : 
     → SaysText (Ok mid) old text (gathered told missing (n - left) at)
     → SaysPart (Err e) left text new (λ k. gathered told missing' k mid)
     → SaysText (Err e) old new (gathered told missing n at)
-text_halts told missing missing' n left at mid (Halts halt) old text new fits same (xs, first, t) says =
-    let l = rw same at says in
+text_halts told missing missing' n left at mid e old text new fits same (xs, first, t) says =
+    halts-map e says (λ halt s.
+    let l = rw same at s in
     let whole = gathered_then_err told (n - left) left at mid missing xs halt first l in
     let z : n - left + left ≡ n = omega arith in
-    rw z at whole
-text_halts told missing missing' n left at mid Log old text new fits same first says = tt
-text_halts told missing missing' n left at mid Memory old text new fits same first says = tt
+    rw z at whole)
 
 -- how many are missing after some more
 pub missing_after : (missing missing' : Option ℕ) (n left got : ℕ) → left ≤ n → got ≤ left → missing' ≡ less missing (n - left)

@@ -2,8 +2,7 @@
 use Rattle.std.proofs.Common.{◌≡◌, ◌≢◌, ◌==◌, ℕ, zero, suc, ◌+◌, ◌%◌, ◌<◌, ◌≤◌, Option, Some, None, Result, Ok, Err, List, [], ◌∷◌, ◌++◌, refl, sym, ap, ◌∙◌, inl, inr, arith, zero-add, ◌⊎◌, false}
 use Rattle.std.proofs.lemmas.Bool.{ne_eqb}
 use Rattle.std.proofs.lemmas.Option.{same_Some}
-use Rattle.wal_reader.specs.declared.types.Halt.{Halt}
-use Rattle.wal_reader.specs.declared.types.Halt.TheVariants.{Stops}
+use Rattle.wal_reader.specs.Halt.{Halt, Stops}
 use Rattle.wal_reader.specs.declared.types.NoRecord.TheVariants.{End}
 use Rattle.wal_reader.specs.declared.types.EndWhy.TheVariants.{Missing}
 use Rattle.wal_reader.specs.Told.{Told, told_bytes}

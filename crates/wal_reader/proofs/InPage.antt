@@ -10,8 +10,7 @@ use Rattle.wal_record.specs.declared.types.PrevRule.{PrevRule}
 use Rattle.wal_record.specs.declared.types.RecordFault.{RecordFault}
 use Rattle.wal_record.specs.Record.{Record}
 use Rattle.wal_record.specs.Decoded.{head_of, total_at, fields_of, decoded}
-use Rattle.wal_reader.specs.declared.types.Halt.{Halt}
-use Rattle.wal_reader.specs.declared.types.Halt.TheVariants.{Stops}
+use Rattle.wal_reader.specs.Halt.{Halt, Stops}
 use Rattle.wal_reader.specs.Told.{Told, told_bytes}
 use Rattle.wal_reader.specs.Gathered.{◌>>=◌, gathered}
 use Rattle.wal_reader.specs.Step.{Entry, unless_faulty, stop_of, begun, headed, attempt, end_after}
@@ -35,7 +34,7 @@ number_front n k m text h =
 -- the tests of a header read no more than its 24 bytes
 head_front : (text : List ℕ) (at : ℕ) (prev : PrevRule) → 24 ≤ length text → head_of (take 24 text) at prev ≡ head_of text at prev
 unfolding head_of total_at fields_of
-head_front text at prev long =
+head_front text at prev header_fits =
     let l : length (take 24 text) ≡ 24 = simp length-take (omega arith) in
     let a : ltb (length text) 4 ≡ false = le-ltb (length text) 4 (omega arith) in
     let b : ltb (length text) 18 ≡ false = le-ltb (length text) 18 (omega arith) in
@@ -60,10 +59,10 @@ abbrev pub entry_of : ℕ → ℕ → ℕ → Result Record RecordFault → Resu
 entry_of segsize start behind (Ok record_) = Ok (record { start = start; end = end_after segsize record_.head behind; record_ = record_ })
 entry_of segsize start behind (Err fault) = Err (Stops (stop_of fault))
 
-module _ (told : Told) (start len : ℕ) (text : List ℕ) (inside : start % 8192 ≢ 0) (within : start % 8192 + len ≤ 8192) (long : 24 ≤ len)
+module _ (told : Told) (start len : ℕ) (text : List ℕ) (inside : start % 8192 ≢ 0) (within : start % 8192 + len ≤ 8192) (header_fits : 24 ≤ len)
     (all : told_bytes told.byte len start ≡ Some text) (says : number_at 4 text 0 ≡ len) where
-  text_long : length text ≡ len
-  text_long = (run_from_told told.byte len start text all).len
+  text_length : length text ≡ len
+  text_length = (run_from_told told.byte len start text all).len
 
   begun_in_page : begun told start ≡ Ok (len, (take 4 text, start + 4))
   unfolding begun
@@ -74,7 +73,7 @@ module _ (told : Told) (start len : ℕ) (text : List ℕ) (inside : start % 819
       let four = gathered_in_page told 4 start start None (take 4 text) (inside_page told None start inside) (lit< tt) (omega arith) part' in
       let n : number_at 4 (take 4 text) 0 ≡ len = number_front 4 0 4 text (lit≤ tt) ∙ says in
       let a : (len == 0) ≡ false = ne_eqb len 0 (omega arith) in
-      let b : ltb len 24 ≡ false = le-ltb len 24 long in
+      let b : ltb len 24 ≡ false = le-ltb len 24 header_fits in
       rw (four, n, a, b) refl
 
   headed_in_page : (prev : PrevRule) → headed told start prev ≡ (unless_faulty (head_of text start prev) >>= λ head. Ok (len, (take 24 text, start + 24)))
@@ -83,7 +82,7 @@ module _ (told : Told) (start len : ℕ) (text : List ℕ) (inside : start % 819
       let part = told_part told.byte len start text 4 20 all (omega arith) in
       let twenty = gathered_in_page told 20 (start + 4) (start + 4) (Some (len - 4)) (take 20 (drop 4 text)) (inside_page told (Some (len - 4)) (start + 4) (omega arith)) (lit< tt) (omega arith) part in
       let joined : take 4 text ++ take 20 (drop 4 text) ≡ take 24 text = sym (take-add 4 20 text) in
-      let l = text_long in
+      let l = text_length in
       let front = head_front text start prev (omega arith) in
       let s : start + 4 + 20 ≡ start + 24 = omega arith in
       rw (begun_in_page, twenty, joined, front, s) refl
@@ -92,13 +91,13 @@ module _ (told : Told) (start len : ℕ) (text : List ℕ) (inside : start % 819
   rest_in_page = elim (cases_eq len 24) [
     | inl e ↦
         let z : len - 24 ≡ 0 = omega arith in
-        let l = text_long in
+        let l = text_length in
         let none : drop 24 text ≡ [] = drop_all 24 text (omega arith) in
         let s : start + len ≡ start + 24 = omega arith in
         rw (z, none, s) (no_more told (Some 0) (start + 24))
     | inr more ↦
         let part = told_part told.byte len start text 24 (len - 24) all (omega arith) in
-        let l = text_long in
+        let l = text_length in
         let whole_rest : take (len - 24) (drop 24 text) ≡ drop 24 text = take_all (len - 24) (drop 24 text) (omega (arith, length-drop 24 text)) in
         let p = rw whole_rest at part in
         let g = gathered_in_page told (len - 24) (start + 24) (start + 24) (Some (len - 24)) (drop 24 text) (inside_page told (Some (len - 24)) (start + 24) (omega arith)) (omega arith) (omega arith) p in

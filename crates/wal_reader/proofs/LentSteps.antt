@@ -7,11 +7,9 @@ use Rattle.wal_record.specs.declared.types.PrevRule.{PrevRule}
 use Rattle.wal_record.specs.declared.types.RecordFault.{RecordFault}
 use Rattle.wal_record.specs.Record.{Record}
 use Rattle.wal_record.specs.Decoded.{decoded}
-use Rattle.wal_reader.specs.declared.types.Halt.{Halt}
-use Rattle.wal_reader.specs.declared.types.Halt.TheVariants.{Stops}
+use Rattle.wal_reader.specs.Halt.{Halt, Stops}
 use Rattle.wal_reader.specs.declared.types.Taken.{Taken}
 use Rattle.wal_reader.specs.declared.types.Trouble.{Trouble}
-use Rattle.wal_reader.specs.declared.types.Trouble.TheVariants.{Halts, Log, Memory}
 use Rattle.wal_reader.specs.Told.{Told, told_bytes}
 use Rattle.wal_reader.specs.Kept.{AreTold, Covers, IsInPage, Kept, piece_of}
 use Rattle.wal_reader.specs.Step.{Entry, attempt, end_after, unless_faulty, stop_of}
@@ -19,6 +17,7 @@ use Rattle.wal_reader.specs.Calls.{Gathering, text_at, trouble_of}
 use Rattle.wal_reader.specs.Records.{IsEntry, SaysAttempt, SaysEnd}
 use Rattle.std.proofs.lemmas.Option.{same_Some}
 use Rattle.std.specs.Option.{ForSome}
+use Rattle.wal_reader.proofs.Halted.{halts-map}
 use Rattle.wal_reader.proofs.WindowSteps.{covered_told}
 use Rattle.wal_reader.proofs.InPage.{attempt_in_page, entry_of, number_front}
 
@@ -35,22 +34,21 @@ pub lent_says : (told : Told) (source : Gathering) (start len : ℕ) (prev : Pre
     → told.segsize ≡ source.segsize → told_bytes told.byte len start ≡ Some (piece_of source.kept start len)
     → SaysEnd r source start (Some len) prev (start + len) → SaysAttempt r source prev (attempt told start prev)
 lent_says told source start len prev (Ok taken) page size all (record_, whole, same) =
-    let a = attempt_in_page told start len (piece_of source.kept start len) page.inside page.within page.long all page.says prev in
+    let a = attempt_in_page told start len (piece_of source.kept start len) page.inside page.within page.header_fits all page.says prev in
     let there : decoded (piece_of source.kept start len) start prev ≡ Ok record_ = whole in
     let b : entry_of told.segsize start (start + len) (decoded (piece_of source.kept start len) start prev)
     ≡ Ok (record { start = start; end = end_after source.segsize record_.head (start + len); record_ = record_ }) = rw (there, size) refl in
     let P : Taken → Type 0 = λ t. IsEntry (text_at source t.start t.lent) t.start t.end prev (attempt told start prev) in
     subst P (sym same) (record_, there, a ∙ b)
-lent_says told source start len prev (Err (Halts halt)) page size all says =
-    attempt_in_page told start len (piece_of source.kept start len) page.inside page.within page.long all page.says prev
-    ∙ faulty_entry told.segsize start (start + len) (decoded (piece_of source.kept start len) start prev) halt says
-lent_says told source start len prev (Err Log) page size all says = tt
-lent_says told source start len prev (Err Memory) page size all says = tt
+lent_says told source start len prev (Err e) page size all says =
+    halts-map e says (λ halt s.
+    attempt_in_page told start len (piece_of source.kept start len) page.inside page.within page.header_fits all page.says prev
+    ∙ faulty_entry told.segsize start (start + len) (decoded (piece_of source.kept start len) start prev) halt s)
 
 -- a record of a length that stands in the room that is kept up to its page's end
 pub in_page : (kept : Kept) (start room len : ℕ) → Covers kept start room → start % 8192 ≢ 0 → start % 8192 + room ≤ 8192 → start + room ≤ 2 ^ 63
     → 24 ≤ len → len ≤ room → len ≡ number_at 4 (piece_of kept start room) 0 → IsInPage kept start len
-in_page kept start room len covers inside within below long fits says =
+in_page kept start room len covers inside within below header_fits fits says =
     let from = covers.0 in
     let end = covers.1 in
     let whole = drop (start - kept.from) kept.bytes in
@@ -58,7 +56,7 @@ in_page kept start room len covers inside within below long fits says =
       covered = (from, omega arith);
       inside = inside;
       within = omega arith;
-      long = long;
+      header_fits = header_fits;
       below = omega arith;
       says = number_front 4 0 len whole (omega arith) ∙ sym (number_front 4 0 room whole (omega arith)) ∙ sym says;
     }

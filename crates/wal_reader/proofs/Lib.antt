@@ -1,6 +1,7 @@
 pub mod ToldBytes
 pub mod WindowSteps
 pub mod GatheredSteps
+pub mod Halted
 pub mod Answered
 pub mod RecordSteps
 pub mod StepSteps

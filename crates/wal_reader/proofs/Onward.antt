@@ -1,13 +1,12 @@
 -- The positions of a log only grow.
 use Rattle.std.proofs.Common.{ℕ, ◌≤◌, Result, Ok, Err, IfErr, arith}
-use Rattle.wal_reader.specs.declared.types.Halt.TheVariants.{Stops, GivesUp}
 use Rattle.wal_reader.specs.declared.types.Trouble.{Trouble}
-use Rattle.wal_reader.specs.declared.types.Trouble.TheVariants.{Halts, Log, Memory}
+use Rattle.wal_reader.specs.declared.types.Trouble.TheVariants.{Stops, GivesUp, Log, Memory}
 use Rattle.wal_reader.specs.Calls.{GivesUpPast}
 
 pub given_up_before : (at later : ℕ) (trouble : Trouble) → at ≤ later → GivesUpPast later trouble → GivesUpPast at trouble
-given_up_before at later (Halts (Stops stop)) h past = tt
-given_up_before at later (Halts (GivesUp place)) h past = omega arith
+given_up_before at later (Stops stop) h past = tt
+given_up_before at later (GivesUp place) h past = omega arith
 given_up_before at later Log h past = tt
 given_up_before at later Memory h past = tt
 

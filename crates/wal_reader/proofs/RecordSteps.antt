@@ -2,15 +2,15 @@
 use Rattle.std.proofs.Common.{◌≡◌, ℕ, ◌-◌, Option, Some, None, Result, Ok, Err, List, [], ◌++◌, refl, sym, subst, ◌∙◌}
 use Rattle.wal_record.specs.declared.types.PrevRule.{PrevRule}
 use Rattle.wal_record.specs.Decoded.{head_of, decoded}
-use Rattle.wal_reader.specs.declared.types.Halt.{Halt}
+use Rattle.wal_reader.specs.Halt.{Halt}
 use Rattle.wal_reader.specs.declared.types.Taken.{Taken}
 use Rattle.wal_reader.specs.declared.types.Trouble.{Trouble}
-use Rattle.wal_reader.specs.declared.types.Trouble.TheVariants.{Halts, Log, Memory}
 use Rattle.wal_reader.specs.Told.{Told}
 use Rattle.wal_reader.specs.Gathered.{◌>>=◌, gathered}
 use Rattle.wal_reader.specs.Step.{Entry, length_in, unless_faulty, begun, headed, attempt, end_after}
 use Rattle.wal_reader.specs.Calls.{Gathering, WhereTold, Says, SaysText, SaysHead, SaysSome, text_at}
 use Rattle.wal_reader.specs.Records.{IsEntry, SaysAttempt, SaysEnd}
+use Rattle.wal_reader.proofs.Halted.{halts-map}
 
 -- the text so far does not matter to what is told
 pub where_from : (told : Option (ℕ → Option ℕ)) (owner : ℕ → ℕ) (old other new : Gathering) (P : Told → Type 0)
@@ -27,19 +27,15 @@ text_whole expected old new at empty (bytes, e, t) =
 module _ (told : Told) (start : ℕ) where
   pub begin_unread : (e : Trouble) (old new text : List ℕ) → SaysText (Err e) old new (gathered told None 4 start) → SaysHead (Err e) text (begun told start)
   unfolding begun
-  begin_unread (Halts halt) old new text says = rw says refl
-  begin_unread Log old new text says = tt
-  begin_unread Memory old new text says = tt
+  begin_unread e old new text says = halts-map e says (λ halt s. rw s refl)
 
   pub begin_refused : (e : Trouble) (old new text : List ℕ) (at : ℕ) → old ≡ [] → SaysText (Ok at) old new (gathered told None 4 start)
       → Says {A = ℕ} (Err e) (length_in new) → SaysHead (Err e) text (begun told start)
   unfolding begun
-  begin_refused (Halts halt) old new text at empty read says =
+  begin_refused e old new text at empty read says =
       let first = text_whole (gathered told None 4 start) old new at empty read in
       let f : (gathered told None 4 start >>= λ four. length_in four.0 >>= λ total. Ok (total, four)) ≡ (length_in new >>= λ total. Ok (total, (new, at))) = rw first refl in
-      f ∙ rw says refl
-  begin_refused Log old new text at empty read says = tt
-  begin_refused Memory old new text at empty read says = tt
+      halts-map e says (λ halt s. f ∙ rw s refl)
 
   pub begin_there : (old new : List ℕ) (at total : ℕ) → old ≡ [] → SaysText (Ok at) old new (gathered told None 4 start)
       → length_in new ≡ Ok total → SaysHead (Ok (total, at)) new (begun told start)
@@ -52,9 +48,7 @@ module _ (told : Told) (start : ℕ) where
   module _ (prev : PrevRule) where
     pub head_unbegun : (e : Trouble) (old new : List ℕ) → SaysHead (Err e) old (begun told start) → SaysHead (Err e) new (headed told start prev)
     unfolding headed
-    head_unbegun (Halts halt) old new says = rw says refl
-    head_unbegun Log old new says = tt
-    head_unbegun Memory old new says = tt
+    head_unbegun e old new says = halts-map e says (λ halt s. rw s refl)
 
     -- what is left of a header's reading, once its length is known
     rest_of_head : ℕ → List ℕ → ℕ → Result (ℕ × (List ℕ × ℕ)) Halt
@@ -70,19 +64,14 @@ module _ (told : Told) (start : ℕ) where
     pub head_unread : (e : Trouble) (total at : ℕ) (text new text' : List ℕ) → begun told start ≡ Ok (total, (text, at))
         → SaysText (Err e) text new (gathered told (Some (total - 4)) 20 at) → SaysHead (Err e) text' (headed told start prev)
     unfolding rest_of_head
-    head_unread (Halts halt) total at text new text' first says = begun_head total at text first ∙ rw says refl
-    head_unread Log total at text new text' first says = tt
-    head_unread Memory total at text new text' first says = tt
+    head_unread e total at text new text' first says = halts-map e says (λ halt s. begun_head total at text first ∙ rw s refl)
 
     pub head_refused : (e : Trouble) (total at end : ℕ) (text new text' : List ℕ) → begun told start ≡ Ok (total, (text, at))
         → SaysText (Ok end) text new (gathered told (Some (total - 4)) 20 at)
         → SaysSome {A = Unit {0}} (Err e) (unless_faulty (head_of new start prev)) → SaysHead (Err e) text' (headed told start prev)
     unfolding rest_of_head
-    head_refused (Halts halt) total at end text new text' first (bytes, read, t) says =
-        let s = rw t at says in
-        begun_head total at text first ∙ rw read (rw s refl)
-    head_refused Log total at end text new text' first read says = tt
-    head_refused Memory total at end text new text' first read says = tt
+    head_refused e total at end text new text' first (bytes, read, t) says =
+        halts-map e says (λ halt s. let s' = rw t at s in begun_head total at text first ∙ rw read (rw s' refl))
 
     pub head_there : (total at end : ℕ) (text new : List ℕ) → begun told start ≡ Ok (total, (text, at))
         → SaysText (Ok end) text new (gathered told (Some (total - 4)) 20 at)
@@ -95,9 +84,7 @@ module _ (told : Told) (start : ℕ) where
     pub record_headless : (e : Trouble) (old : List ℕ) (source : Gathering) → SaysHead (Err e) old (headed told start prev)
         → SaysAttempt (Err e) source prev (attempt told start prev)
     unfolding attempt
-    record_headless (Halts halt) old source says = rw says refl
-    record_headless Log old source says = tt
-    record_headless Memory old source says = tt
+    record_headless e old source says = halts-map e says (λ halt s. rw s refl)
 
     -- what is left of a record's reading, once its header is read
     rest_of_record : ℕ → List ℕ → ℕ → Result Entry Halt
@@ -113,9 +100,7 @@ module _ (told : Told) (start : ℕ) where
     pub record_unread : (e : Trouble) (total at : ℕ) (text new : List ℕ) (source : Gathering) → headed told start prev ≡ Ok (total, (text, at))
         → SaysText (Err e) text new (gathered told (Some (total - 24)) (total - 24) at) → SaysAttempt (Err e) source prev (attempt told start prev)
     unfolding rest_of_record
-    record_unread (Halts halt) total at text new source first says = headed_record total at text first ∙ rw says refl
-    record_unread Log total at text new source first says = tt
-    record_unread Memory total at text new source first says = tt
+    record_unread e total at text new source first says = halts-map e says (λ halt s. headed_record total at text first ∙ rw s refl)
 
     pub record_read : (result : Result Taken Trouble) (total at behind : ℕ) (text : List ℕ) (source : Gathering) → headed told start prev ≡ Ok (total, (text, at))
         → SaysText (Ok behind) text source.text (gathered told (Some (total - 24)) (total - 24) at)
@@ -128,9 +113,5 @@ module _ (told : Told) (start : ℕ) where
         headed_record total at text first ∙ rw read (rw (w, size) refl) in
         let P : Taken → Type 0 = λ x. IsEntry (text_at source x.start x.lent) x.start x.end prev (attempt told start prev) in
         subst P (sym same) (record_, there, made)
-    record_read (Err (Halts halt)) total at behind text source first (bytes, read, t) size says =
-        let there : unless_faulty (decoded source.text start prev) ≡ Err halt = says in
-        let s = rw t at there in
-        headed_record total at text first ∙ rw read (rw s refl)
-    record_read (Err Log) total at behind text source first read size says = tt
-    record_read (Err Memory) total at behind text source first read size says = tt
+    record_read (Err e) total at behind text source first (bytes, read, t) size says =
+        halts-map e says (λ halt there. let s = rw t at there in headed_record total at text first ∙ rw read (rw s refl))

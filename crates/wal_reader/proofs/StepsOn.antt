@@ -13,8 +13,7 @@ use Rattle.wal_record.specs.declared.types.RecordHead.{RecordHead}
 use Rattle.wal_record.specs.Record.{Record}
 use Rattle.wal_record.specs.Decoded.{head_of, decoded}
 use Rattle.wal_reader.specs.declared.types.EndWhy.TheVariants as why
-use Rattle.wal_reader.specs.declared.types.Halt.{Halt}
-use Rattle.wal_reader.specs.declared.types.Halt.TheVariants.{Stops, GivesUp}
+use Rattle.wal_reader.specs.Halt.{Halt, Stops, GivesUp}
 use Rattle.wal_reader.specs.declared.types.NoRecord.{NoRecord}
 use Rattle.wal_reader.specs.declared.types.NoRecord.TheVariants.{End, Compressed, TooLong}
 use Rattle.wal_reader.specs.Told.{Told, accepted, expected_at, header_at, page_header_length, read_at, told_bytes}

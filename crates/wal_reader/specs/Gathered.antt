@@ -2,8 +2,7 @@
 -- xlogreader.c).
 use Rattle.std.specs.Prelude.{ℕ, zero, suc, ◌+◌, ◌-◌, ◌%◌, ◌==◌, Bool, ◌&&◌, not, bit_and, Option, Some, None, option_map, Result, Ok, Err, List, [], ◌∷◌, if◌then◌else◌}
 use Rattle.wal_page.specs.declared.PageHead.{PageHead}
-use Rattle.wal_reader.specs.declared.types.Halt.{Halt}
-use Rattle.wal_reader.specs.declared.types.Halt.TheVariants.{Stops, GivesUp}
+use Rattle.wal_reader.specs.Halt.{Halt, Stops, GivesUp}
 use Rattle.wal_reader.specs.declared.types.NoRecord.TheVariants.{End}
 use Rattle.wal_reader.specs.declared.types.EndWhy.TheVariants.{Missing, Page}
 use Rattle.wal_reader.specs.Told.{Told, header_at, page_header_length}

@@ -24,6 +24,6 @@ pub record IsInPage (kept : Kept) (start len : ℕ) : Type 0 where
   pub covered : Covers kept start len
   pub inside : start % 8192 ≢ 0
   pub within : start % 8192 + len ≤ 8192
-  pub long : 24 ≤ len
+  pub header_fits : 24 ≤ len
   pub below : start + len ≤ 2 ^ 63
   pub says : number_at 4 (piece_of kept start len) 0 ≡ len

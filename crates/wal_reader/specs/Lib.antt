@@ -1,3 +1,4 @@
+pub mod Halt
 pub mod Told
 pub mod Kept
 pub mod Calls

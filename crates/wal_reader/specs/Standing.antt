@@ -9,7 +9,6 @@ use Rattle.wal_record.specs.declared.view.RecordShape.{RecordShape}
 use Rattle.wal_record.specs.Record.{Record}
 use Rattle.wal_record.specs.Decoded.{decoded}
 use Rattle.wal_reader.specs.declared.types.EndWhy.TheVariants.{Layout}
-use Rattle.wal_reader.specs.declared.types.Halt.TheVariants.{Stops, GivesUp}
 use Rattle.wal_reader.specs.declared.types.Taken.{Taken}
 use Rattle.wal_reader.specs.declared.types.Trouble.{Trouble}
 use Rattle.wal_reader.specs.declared.types.Trouble.TheVariants as trouble
@@ -21,7 +20,7 @@ use Rattle.wal_reader.specs.declared.types.NoRecord.{NoRecord}
 use Rattle.wal_reader.specs.declared.types.NoRecord.TheVariants.{End, Compressed, TooLong}
 use Rattle.wal_reader.specs.Step.{Entry}
 use Rattle.wal_reader.specs.Kept.{Covers, piece_of}
-use Rattle.wal_reader.specs.Calls.{Gathering}
+use Rattle.wal_reader.specs.Calls.{Gathering, IfHalts}
 use Rattle.wal_reader.specs.Records.{IsEntry, IsWhole, ended_by}
 
 -- the position, the record before it, what texts are gathered from, and where the record last given begins and where the
@@ -86,9 +85,7 @@ Answers (Err fault.Memory) at found expected = Unit {0}
 -- the expected record was read, and its text is this
 abbrev pub SaysGiven : Result Taken Trouble → List ℕ → PrevRule → Result Entry NoRecord → Type 0
 SaysGiven (Ok taken) text prev expected = IsEntry text taken.start taken.end prev expected
-SaysGiven (Err (trouble.Halts halt)) text prev expected = expected ≡ Err (ended_by halt)
-SaysGiven (Err trouble.Log) text prev expected = Unit {0}
-SaysGiven (Err trouble.Memory) text prev expected = Unit {0}
+SaysGiven (Err found) text prev expected = IfHalts found (λ halt. expected ≡ Err (ended_by halt))
 
 -- the text that a reader shows: the one that was gathered, or so many bytes of those that are kept
 abbrev pub shown_text : Gathering → Option (ℕ × ℕ) → List ℕ
@@ -110,9 +107,9 @@ IsLent source lent = ForSome lent (λ l. Covers source.kept l.0 l.1)
 -- the answer that an outcome is, at this position
 abbrev pub next_of : Lsn → Result Taken Trouble → Result Next ReadFault
 next_of lsn (Ok taken) = Ok (next.Record (record { 0 = taken.start }) (record { 0 = taken.end }))
-next_of lsn (Err (trouble.Halts (Stops (End why)))) = Ok (next.AtEnd lsn why)
-next_of lsn (Err (trouble.Halts (Stops Compressed))) = Err (fault.Compressed lsn)
-next_of lsn (Err (trouble.Halts (Stops TooLong))) = Err (fault.TooLong lsn)
-next_of lsn (Err (trouble.Halts (GivesUp place))) = Ok (next.AtEnd lsn Layout)
+next_of lsn (Err (trouble.Stops (End why))) = Ok (next.AtEnd lsn why)
+next_of lsn (Err (trouble.Stops Compressed)) = Err (fault.Compressed lsn)
+next_of lsn (Err (trouble.Stops TooLong)) = Err (fault.TooLong lsn)
+next_of lsn (Err (trouble.GivesUp place)) = Ok (next.AtEnd lsn Layout)
 next_of lsn (Err trouble.Log) = Err fault.Log
 next_of lsn (Err trouble.Memory) = Err fault.Memory

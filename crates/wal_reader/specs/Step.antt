@@ -11,8 +11,7 @@ use Rattle.wal_record.specs.Decoded.{head_of, decoded}
 use Rattle.wal_reader.specs.declared.types.EndWhy.TheVariants as why
 use Rattle.wal_reader.specs.declared.types.NoRecord.{NoRecord}
 use Rattle.wal_reader.specs.declared.types.NoRecord.TheVariants.{End, Compressed, TooLong}
-use Rattle.wal_reader.specs.declared.types.Halt.{Halt}
-use Rattle.wal_reader.specs.declared.types.Halt.TheVariants.{Stops, GivesUp}
+use Rattle.wal_reader.specs.Halt.{Halt, Stops, GivesUp}
 use Rattle.wal_reader.specs.Told.{Told}
 use Rattle.wal_reader.specs.Gathered.{◌>>=◌, place_at, gathered}
 

@@ -5,8 +5,7 @@ use Rattle.wal_page.specs.declared.Expect.{Expect}
 use Rattle.wal_page.specs.declared.PageHead.{PageHead}
 use Rattle.wal_page.specs.declared.PageFault.{PageFault}
 use Rattle.wal_page.specs.Page.{page_header, header_length, is_long_due}
-use Rattle.wal_reader.specs.declared.types.Halt.{Halt}
-use Rattle.wal_reader.specs.declared.types.Halt.TheVariants.{Stops}
+use Rattle.wal_reader.specs.Halt.{Halt, Stops}
 use Rattle.wal_reader.specs.declared.types.NoRecord.TheVariants.{End}
 use Rattle.wal_reader.specs.declared.types.EndWhy.TheVariants.{Missing, Page}
 

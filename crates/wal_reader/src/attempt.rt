@@ -7,7 +7,7 @@ ghost use Rattle.wal_reader.specs.Calls.{LogStays, WhereTold, Says, SaysHead, Sa
 ghost use Rattle.wal_reader.specs.Records.{SaysAttempt, SaysEnd, IsRead};
 
 use crate::source::Gatherer;
-use crate::types::{EndWhy, Halt, NoRecord, Taken, Trouble};
+use crate::types::{EndWhy, NoRecord, Taken, Trouble};
 use outside::LogBytes;
 use pg_types::{Lsn, u32_at};
 use wal_record::{PrevRule, RecordFault, RecordHead, decode_head, lend, shape_of};
@@ -16,7 +16,7 @@ impl Gatherer {
     /// Reads the length of the record whose first byte stands at `start`, and answers it with the position
     /// behind.
     fn begin<L: LogBytes>(&mut self, log: &mut L, start: u64) -> Result<(u32, u64), Trouble>
-        ensures long { IfOk result (λ part. (24 ≤ part.0) × (part.1 ≤ 2 ^ 63)) }
+        ensures header_fits { IfOk result (λ part. (24 ≤ part.0) × (part.1 ≤ 2 ^ 63)) }
         ensures onward { IfOk result (λ part. start < part.1) }
         ensures given_up { IfErr result (GivesUpPast start) }
         ensures same { self.new ≡ record self.old { kept = self.new.kept; text = self.new.text } }
@@ -40,7 +40,7 @@ impl Gatherer {
         start: u64,
         prev: PrevRule,
     ) -> Result<(u32, u64), Trouble>
-        ensures long { IfOk result (λ part. (24 ≤ part.0) × (part.1 ≤ 2 ^ 63)) }
+        ensures header_fits { IfOk result (λ part. (24 ≤ part.0) × (part.1 ≤ 2 ^ 63)) }
         ensures onward { IfOk result (λ part. start < part.1) }
         ensures given_up { IfErr result (GivesUpPast start) }
         ensures same { self.new ≡ record self.old { kept = self.new.kept; text = self.new.text } }
@@ -123,10 +123,10 @@ impl Gatherer {
     {
         let text = self.text_at(start, lent);
         match shape_of(text, Lsn(start), prev) {
-            Err(fault) => Err(Trouble::Halts(Halt::Stops(stop_of(fault)))),
+            Err(fault) => Err(Trouble::Stops(stop_of(fault))),
             Ok(shape) => Ok(Taken {
                 start,
-                end: end_of(self.segsize(), lend(text, shape).head(), behind),
+                end: end_after(self.segsize(), lend(text, shape).head(), behind),
                 lent,
                 shape,
             }),
@@ -139,12 +139,12 @@ fn length_in(bytes: &[u8]) -> Result<u32, Trouble>
     requires { 4 ≤ length bytes.now }
     ensures says { Says result (spec.length_in bytes.now) }
     ensures given_up { IfErr result (λ trouble. (at : ℕ) → GivesUpPast at trouble) }
-    ensures long { IfOk result (λ total. 24 ≤ total) }
+    ensures header_fits { IfOk result (λ total. 24 ≤ total) }
     ensures no_log { result ≡ Err Trouble.Log → ⊥ }
 {
     match u32_at(bytes, 0) {
-        0 => Err(Trouble::Halts(Halt::Stops(NoRecord::End(EndWhy::Zero)))),
-        1..=23 => Err(Trouble::Halts(Halt::Stops(NoRecord::End(EndWhy::Short)))),
+        0 => Err(Trouble::Stops(NoRecord::End(EndWhy::Zero))),
+        1..=23 => Err(Trouble::Stops(NoRecord::End(EndWhy::Short))),
         total => Ok(total),
     }
 }
@@ -173,13 +173,13 @@ fn test_head(bytes: &[u8], start: u64, prev: PrevRule) -> Result<(), Trouble>
 {
     match decode_head(bytes, Lsn(start), prev) {
         Ok(_) => Ok(()),
-        Err(fault) => Err(Trouble::Halts(Halt::Stops(stop_of(fault)))),
+        Err(fault) => Err(Trouble::Stops(stop_of(fault))),
     }
 }
 
 /// The position at which the record's end is, where its last byte stands right before `behind`.
 #[tactic(auto, unfolding(crate::specs::Step::end_after, pg_types::specs::Names::is_segment_size))]
-fn end_of(segsize: u32, head: RecordHead, behind: u64) -> u64
+fn end_after(segsize: u32, head: RecordHead, behind: u64) -> u64
     requires allowed { IsSegmentSize segsize }
     requires bounded { behind ≤ 2 ^ 63 }
     ensures value { result ≡ spec.end_after segsize head behind }

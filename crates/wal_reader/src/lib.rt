@@ -11,4 +11,4 @@ mod window;
 
 pub use laws::{one_log, steps_on};
 pub use reader::Reader;
-pub use types::{EndWhy, Halt, Next, NoRecord, ReadFault};
+pub use types::{EndWhy, Next, NoRecord, ReadFault};

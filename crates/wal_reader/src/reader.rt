@@ -7,7 +7,7 @@ ghost use Rattle.wal_reader.specs.Calls.{LogStays, WhereTold};
 ghost use Rattle.wal_reader.specs.Standing.{Answers, BearsPosition, IsLent, MovesOn, SaysGiven, StandsStill, lent_at, next_of, past, record_given, shown};
 
 use crate::source::Gatherer;
-use crate::types::{EndWhy, Halt, Next, NoRecord, ReadFault, Taken, Trouble};
+use crate::types::{EndWhy, Next, NoRecord, ReadFault, Taken, Trouble};
 use outside::LogBytes;
 use pg_types::{Lsn, NoMemory};
 use std::alloc::Global;
@@ -158,12 +158,10 @@ fn next_of(lsn: Lsn, taken: Result<Taken, Trouble>) -> Result<Next, ReadFault>
             start: Lsn(taken.start),
             end: Lsn(taken.end),
         }),
-        Err(Trouble::Halts(Halt::Stops(NoRecord::End(why)))) => Ok(Next::AtEnd { lsn, why }),
-        Err(Trouble::Halts(Halt::Stops(NoRecord::Compressed))) => {
-            Err(ReadFault::Compressed { lsn })
-        }
-        Err(Trouble::Halts(Halt::Stops(NoRecord::TooLong))) => Err(ReadFault::TooLong { lsn }),
-        Err(Trouble::Halts(Halt::GivesUp { .. })) => Ok(Next::AtEnd {
+        Err(Trouble::Stops(NoRecord::End(why))) => Ok(Next::AtEnd { lsn, why }),
+        Err(Trouble::Stops(NoRecord::Compressed)) => Err(ReadFault::Compressed { lsn }),
+        Err(Trouble::Stops(NoRecord::TooLong)) => Err(ReadFault::TooLong { lsn }),
+        Err(Trouble::GivesUp { .. }) => Ok(Next::AtEnd {
             lsn,
             why: EndWhy::Layout,
         }),

@@ -8,7 +8,7 @@ ghost use Rattle.wal_reader.specs.Gathered as spec;
 ghost use Rattle.wal_reader.specs.Kept.{AreTold, Covers, IsInPage, piece_of};
 ghost use Rattle.wal_reader.specs.Calls.{LogStays, WhereTold, Says, SaysBytes, SaysText, SaysPart, GivesUpPast, less, text_at, IsThere};
 
-use crate::types::{EndWhy, Halt, NoRecord, Trouble};
+use crate::types::{EndWhy, NoRecord, Trouble};
 use crate::window::{PAGE, Window};
 use outside::LogBytes;
 use pg_types::{Fail, Lsn, NoMemory, u32_at};
@@ -69,7 +69,7 @@ impl Gatherer {
         if self.window.cover(log, at, n)? {
             Ok(())
         } else {
-            Err(Trouble::Halts(Halt::Stops(NoRecord::End(EndWhy::Missing))))
+            Err(Trouble::Stops(NoRecord::End(EndWhy::Missing)))
         }
     }
 
@@ -274,7 +274,7 @@ fn accepted(read: Result<PageHead, PageFault>) -> Result<PageHead, Trouble>
 {
     match read {
         Ok(head) => Ok(head),
-        Err(_) => Err(Trouble::Halts(Halt::Stops(NoRecord::End(EndWhy::Page)))),
+        Err(_) => Err(Trouble::Stops(NoRecord::End(EndWhy::Page))),
     }
 }
 
@@ -290,11 +290,11 @@ fn enters(head: &PageHead, missing: Option<u32>, behind: u64) -> Result<u64, Tro
     };
     let begins_inside = head.info & 1 != 0;
     if head.info & 8 != 0 && !begins_inside {
-        Err(Trouble::Halts(Halt::GivesUp { place: behind }))
+        Err(Trouble::GivesUp { place: behind })
     } else if begins_inside && head.rem == missing {
         Ok(behind)
     } else {
-        Err(Trouble::Halts(Halt::Stops(NoRecord::End(EndWhy::Page))))
+        Err(Trouble::Stops(NoRecord::End(EndWhy::Page)))
     }
 }
 

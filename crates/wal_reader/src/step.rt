@@ -8,7 +8,7 @@ ghost use Rattle.wal_reader.specs.Calls.{IsThere, LogStays, WhereTold, text_at};
 ghost use Rattle.wal_reader.specs.Records.{SaysStep, given_up_at, trouble_in_place, IsRead};
 
 use crate::source::Gatherer;
-use crate::types::{EndWhy, Halt, NoRecord, Taken, Trouble};
+use crate::types::{EndWhy, NoRecord, Taken, Trouble};
 use outside::LogBytes;
 use pg_types::u64_at;
 use wal_record::{PrevRule, lend};
@@ -75,7 +75,7 @@ impl Gatherer {
         if self.overwrites(begun, taken) {
             Ok(taken)
         } else {
-            Err(Trouble::Halts(Halt::Stops(NoRecord::End(EndWhy::Layout))))
+            Err(Trouble::Stops(NoRecord::End(EndWhy::Layout)))
         }
     }
 
@@ -97,8 +97,8 @@ fn given_up_at(answer: Result<Taken, Trouble>) -> Option<u64>
     ensures { result ≡ given_up_at answer }
 {
     match answer {
-        Err(Trouble::Halts(Halt::GivesUp { place })) => Some(place),
-        Err(Trouble::Halts(Halt::Stops(_))) => None,
+        Err(Trouble::GivesUp { place }) => Some(place),
+        Err(Trouble::Stops(_)) => None,
         Err(Trouble::Log) => None,
         Err(Trouble::Memory) => None,
         Ok(_) => None,
@@ -110,10 +110,10 @@ fn trouble_in_place(trouble: Trouble) -> Trouble
     ensures { result ≡ trouble_in_place trouble }
 {
     match trouble {
-        Trouble::Halts(Halt::Stops(NoRecord::End(why))) => {
-            Trouble::Halts(Halt::Stops(NoRecord::End(why)))
-        }
-        Trouble::Halts(_) => Trouble::Halts(Halt::Stops(NoRecord::End(EndWhy::Layout))),
+        Trouble::Stops(NoRecord::End(why)) => Trouble::Stops(NoRecord::End(why)),
+        Trouble::Stops(NoRecord::Compressed)
+        | Trouble::Stops(NoRecord::TooLong)
+        | Trouble::GivesUp { .. } => Trouble::Stops(NoRecord::End(EndWhy::Layout)),
         Trouble::Log => Trouble::Log,
         Trouble::Memory => Trouble::Memory,
     }

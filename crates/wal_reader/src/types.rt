@@ -35,14 +35,6 @@ pub enum NoRecord {
     TooLong,
 }
 
-/// Why a record's text is not gathered on: for good, or since the page that should go on with it says
-/// that it was given up, and that another record begins at `place`.
-#[derive(Clone, Copy, Debug, PartialEq, Eq)]
-pub enum Halt {
-    Stops(NoRecord),
-    GivesUp { place: u64 },
-}
-
 /// What stands at the reader's position.
 #[derive(Clone, Copy, Debug, PartialEq, Eq)]
 pub enum Next {
@@ -65,10 +57,14 @@ pub enum ReadFault {
     Memory,
 }
 
-/// Why a step of the reader gives no answer.
+/// Why a step of the reader reads no record.
 #[derive(Clone, Copy, Debug, PartialEq, Eq)]
 pub enum Trouble {
-    Halts(Halt),
+    /// None is read at the position.
+    Stops(NoRecord),
+    /// The page that should go on with the record says that it was given up, and that another one begins
+    /// at `place`.
+    GivesUp { place: u64 },
     /// The log failed.
     Log,
     /// Memory ran out.

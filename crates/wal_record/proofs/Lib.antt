@@ -12,3 +12,4 @@ pub mod EncodedRead
 pub mod Comparisons
 pub mod OfBytes
 pub mod Shaping
+pub mod Ids

@@ -17,6 +17,7 @@ use Rattle.wal_record.specs.Parts.{parts_of, start, seen_after}
 use Rattle.wal_record.specs.Decoded.{walked_from, walked, laid_out, announced, IsParted, fields_of, head_of, whole, decoded}
 use Rattle.wal_record.specs.Spelling.{AreBytes, part_text}
 use Rattle.wal_record.specs.Shapes.{HasShape, IsLaid, SaysLaid, SaysShape, laid_as, shaped}
+use Rattle.wal_record.proofs.Ids.{ids-below}
 use Rattle.wal_record.proofs.Laid.{laid_out-ok}
 use Rattle.wal_record.proofs.SpelledRecord.{parts-take}
 use Rattle.wal_record.proofs.SpelledWhole.{head-fields}
@@ -55,13 +56,20 @@ payloads-behind text seen payloads all h plain = walked-behind text seen payload
 -- a text whose walk fills it is laid so
 pub laid-there : (head : RecordHead) (text : List ℕ) (seen : HeadersRead) (payloads : List ℕ) → AreBytes text → length text < 2 ^ 32 → walked text ≡ Some (seen, payloads)
     → length payloads ≡ seen.blocks + seen.main → seen.compressed ≡ false
-    → SaysLaid (Ok (record { headers = length text - length payloads; blocks = seen.blocks })) head text (laid_out head text)
+    → SaysLaid (Ok (record { headers = length text - length payloads; blocks = seen.blocks; ids = seen.least_id })) head text (laid_out head text)
 laid-there head text seen payloads all few h fills plain =
     let there = payloads-behind text seen payloads all h plain in
     let parted : IsParted text payloads = record { bounded = few; payloads_there = rw (h, ← fills) refl } in
     let same = there.1 in
-    let made = laid_out-ok head text seen payloads h fills plain in
-    (rw same made, record { headers = omega arith; blocks = rw same (omega arith); parted = subst (λ (p : List ℕ). IsParted text p) (sym same) parted })
+    let made = laid_out-ok head text seen payloads h fills plain in (
+      rw same made,
+      record {
+        headers = omega arith;
+        blocks = rw same (omega arith);
+        parted = subst (λ (p : List ℕ). IsParted text p) (sym same) parted;
+        ids = rw same (ids-below text seen payloads h);
+      },
+    )
 
 -- by its header and the text behind it
 pub shape-there : (bytes : List ℕ) (at : ℕ) (rule : PrevRule) (head : RecordHead) (answer : Result RecordShape RecordFault)

@@ -1,5 +1,5 @@
 -- A record as contracts see it: lists and numbers (xlogreader.h, DecodedXLogRecord).
-use Rattle.std.specs.Prelude.{ℕ, Bool, List, [], ◌∷◌, Option, Some, None, ◌==◌, if◌then◌else◌}
+use Rattle.std.specs.Prelude.{◌≡◌, ℕ, ◌≤◌, Bool, List, [], ◌∷◌, Option, Some, None, ◌==◌, if◌then◌else◌}
 use Rattle.pg_types.specs.declared.names.Locator.{Locator}
 use Rattle.wal_record.specs.declared.types.RecordHead.{RecordHead}
 
@@ -29,3 +29,7 @@ pub record Record : Type 0 where
 abbrev pub block_by_id : ℕ → List Block → Option Block
 block_by_id id [] = None
 block_by_id id (block ∷ blocks) = if block.id == id then Some block else block_by_id id blocks
+
+-- each block's id is below this number
+abbrev pub AreBelow : ℕ → List Block → Type 0
+AreBelow ids blocks = (id : ℕ) → ids ≤ id → block_by_id id blocks ≡ None

@@ -3,7 +3,7 @@ use Rattle.std.specs.Prelude.{◌≡◌, ℕ, ◌≤◌, List, length, drop, Res
 use Rattle.wal_record.specs.declared.types.RecordHead.{RecordHead}
 use Rattle.wal_record.specs.declared.types.RecordFault.{RecordFault}
 use Rattle.wal_record.specs.declared.view.RecordShape.{RecordShape}
-use Rattle.wal_record.specs.Record.{Record}
+use Rattle.wal_record.specs.Record.{Record, AreBelow}
 use Rattle.wal_record.specs.Decoded.{IsParted, blocks_in, fields_of}
 
 -- the payloads in the text behind a record's header
@@ -23,6 +23,7 @@ pub record IsLaid (text : List ℕ) (shape : RecordShape) : Type 0 where
   pub headers : shape.headers ≤ length text
   pub blocks : shape.blocks ≤ length (payloads_of text shape)
   pub parted : IsParted text (payloads_of text shape)
+  pub ids : AreBelow shape.ids (blocks_in text (payloads_of text shape))
 
 -- the record whose parts stand so in its bytes
 abbrev pub shaped : List ℕ → RecordShape → Record

@@ -22,10 +22,13 @@ pub struct RecordView<'a> {
     /// What stands behind the headers of the parts.
     payloads: &'a [u8],
     main: &'a [u8],
+    /// Each block's id is below this number.
+    ids: u16,
 }
 
 impl<'a> Model for RecordView<'a> {
-    ghost use Rattle.wal_record.specs.Record.{Record};
+    ghost use Rattle.std.specs.Prelude.{ℕ};
+    ghost use Rattle.wal_record.specs.Record.{Record, AreBelow};
 
     ghost Value = { Record };
 
@@ -33,7 +36,7 @@ impl<'a> Model for RecordView<'a> {
 
     ghost view = { λ v. record { head = v.head; blocks = blocks_in v.text.now v.payloads.now; main = v.main.now } };
 
-    ghost invariant = { λ v. IsParted v.text.now v.payloads.now };
+    ghost invariant = { λ v. IsParted v.text.now v.payloads.now × AreBelow v.ids (blocks_in v.text.now v.payloads.now) };
 }
 
 /// Where the parts of a record stand in its bytes, as `shape_of` found it.
@@ -43,6 +46,8 @@ pub struct RecordShape {
     headers: usize,
     /// The length of the blocks' payloads.
     blocks: usize,
+    /// Each block's id is below this number.
+    ids: u16,
 }
 
 impl RecordShape {
@@ -50,6 +55,7 @@ impl RecordShape {
     pub const BARE: RecordShape = RecordShape {
         headers: 0,
         blocks: 0,
+        ids: 0,
     };
 }
 
@@ -95,6 +101,7 @@ pub fn lend<'a>(bytes: &'a [u8], shape: RecordShape) -> RecordView<'a>
         text,
         payloads,
         main,
+        ids: shape.ids,
     }
 }
 
@@ -132,6 +139,7 @@ fn laid_out(text: &[u8]) -> Result<RecordShape, RecordFault>
     Ok(RecordShape {
         headers: text.len() - payloads.len(),
         blocks: seen.blocks,
+        ids: seen.least_id,
     })
 }
 
@@ -225,10 +233,14 @@ impl<'a> RecordView<'a> {
         self.head
     }
 
-    /// The block with this id, if the record refers to one. It walks the headers of the parts up to it.
+    /// The block with this id, if the record refers to one. It walks the headers of the parts up to it, and
+    /// none where the id is past those of all blocks.
     pub fn block(&self, id: u8) -> Option<BlockView<'a>>
         ensures { option_map (λ block. block_of_view id block) result ≡ block_by_id id self.now.blocks }
     {
+        if self.ids <= u16::from(id) {
+            return None;
+        }
         find(self.text, self.payloads, id)
     }
 
@@ -241,6 +253,7 @@ impl<'a> RecordView<'a> {
             text: self.text,
             payloads: self.payloads,
             main: self.main,
+            ids: self.ids,
         }
     }
 

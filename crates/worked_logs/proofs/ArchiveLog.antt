@@ -35,7 +35,7 @@ use Rattle.worked_logs.proofs.Legal.{keeping_is_legal_holds}
 use Rattle.row_model.specs.LegalRows.{LegalAlong, LegalTable, TableRule}
 use Rattle.row_model.specs.LegalSteps.{EachStep}
 use Rattle.row_model.specs.Versions.{RowStep}
-use Rattle.worked_logs.proofs.OneMore.{answered, no_locks}
+use Rattle.row_model.proofs.WorkedLog.{answered_view, no_locks}
 use Rattle.row_model.specs.WorkedRows.{worked_start}
 use Rattle.worked_logs.specs.ArchiveLog.{ArchiveIsLegal}
 
@@ -262,7 +262,7 @@ other_plain older rec none checkpoint =
       blocks =
           subst (BlocksRule worked_origin other_table older (versions worked_origin other_table older) (versions worked_origin other_table (rec ∷ older)))
           (sym none) (All-nil (IsOtherRule older (versions worked_origin other_table older) (versions worked_origin other_table (rec ∷ older))));
-      locks = no_locks other_table older rec;
+      locks = no_locks worked_origin other_table older rec;
       checkpoint = checkpoint;
       multixacts = no_steps (MultixactStep older) older rec none;
     }
@@ -279,7 +279,7 @@ other_insert =
           All-cons (IsOtherRule at_start (versions worked_origin other_table at_start) (versions worked_origin other_table (insert ∷ at_start)))
           inserted_block [] (λ e. absurd (false≢true e))
           (All-nil (IsOtherRule at_start (versions worked_origin other_table at_start) (versions worked_origin other_table (insert ∷ at_start))));
-      locks = no_locks other_table at_start insert;
+      locks = no_locks worked_origin other_table at_start insert;
       checkpoint = tt;
       multixacts = tt;
     }
@@ -333,7 +333,7 @@ archive_is_legal worked =
     let begin : Legal worked_ids (transactions_of worked_start) = worked_begin worked.transactions in
     let first : LegalLog worked_origin (worked_table ∷ []) log =
     keeping_is_legal_holds worked_origin worked_table log (archive_keeps begin (at_origin begin)) in
-    let (view, redone_is) = answered (view_after worked_origin known log) both_redone in
+    let (view, redone_is) = answered_view (view_after worked_origin known log) both_redone in
     record {
       apart = first.apart;
       shutdowns = first.shutdowns;

@@ -18,6 +18,7 @@ use Rattle.row_model.specs.RowSteps.{versions, view_after}
 use Rattle.row_model.specs.LegalSteps.{BirthStep, DeleterStep, KeepsTo, MultixactStep, RemovalStep, horizon_of}
 use Rattle.row_model.specs.LegalRows.{AnewRule, BlocksRule, CheckpointRule, ImageRule, LockRule, are_apart, is_redo, is_redo_own, renews_first}
 use Rattle.row_model.specs.WorkedRows.{first_tuple, worked_block, worked_ids, worked_origin, worked_table}
+use Rattle.row_model.proofs.WorkedLog.{answered_view, no_locks}
 use Rattle.worked_logs.specs.Clauses.{Clause, Births, Deleters, Removals, Cut, Blocks, Locks, CheckpointLocks, Multixacts, Renews, Apart, Shutdowns, Transactions, NewMultixacts, Redone, Keeps}
 use Rattle.worked_logs.specs.BrokenLogs.{BreaksOnly, bare_block}
 
@@ -40,30 +41,13 @@ Adds Transactions older rec = Legal worked_ids (transactions_of older) → Legal
 Adds NewMultixacts older rec = Unit {0}
 Adds Redone older rec = is_ok (view_after worked_origin (worked_table ∷ []) (rec ∷ older)) ≡ true
 
-pub answered : (r : Result View RedoFault) → is_ok r ≡ true → (view : View) × (r ≡ Ok view)
-answered (Ok view) h = (view, refl)
-answered (Err fault) h = absurd (false≢true h)
-
--- no table was dropped
-not_gone : (table : Locator) (log : List Rec) → is_gone table log ≡ false
-not_gone table [] = refl
-not_gone table (rec ∷ log) = not_gone table log
-
-pub no_locks : (table : Locator) (older : List Rec) (rec : Rec) → LockRule worked_origin table older rec
-no_locks table older rec =
-    record {
-      cut = λ blocks e. absurd (cc);
-      drop = λ e. absurd (false≢true e);
-      gone = λ e. absurd (false≢true (sym (not_gone table older) ∙ e));
-    }
-
 pub one_more : (clause : Clause) (older : List Rec) (rec : Rec) → Keeps clause worked_origin worked_table older → Adds clause older rec → Keeps clause worked_origin worked_table (rec ∷ older)
 one_more Births older rec keeps adds = (adds, keeps)
 one_more Deleters older rec keeps adds = (adds, keeps)
 one_more Removals older rec keeps adds = (adds, keeps)
 one_more Cut older rec keeps adds = (tt, keeps)
 one_more Blocks older rec keeps adds = (adds, keeps)
-one_more Locks older rec keeps adds = (no_locks worked_table older rec, keeps)
+one_more Locks older rec keeps adds = (no_locks worked_origin worked_table older rec, keeps)
 one_more CheckpointLocks older rec keeps adds = (adds, keeps)
 one_more Multixacts older rec keeps adds = (adds, keeps)
 one_more Renews older rec keeps adds = adds
@@ -71,7 +55,7 @@ one_more Apart older rec keeps adds = All-cons (λ (r : Rec). are_apart r.blocks
 one_more Shutdowns older rec keeps adds = All-cons (λ (r : Rec). is_redo_own r ≡ true) rec older adds keeps
 one_more Transactions older rec keeps adds = adds keeps
 one_more NewMultixacts older rec keeps adds = (tt, keeps)
-one_more Redone older rec keeps adds = answered (view_after worked_origin (worked_table ∷ []) (rec ∷ older)) adds
+one_more Redone older rec keeps adds = answered_view (view_after worked_origin (worked_table ∷ []) (rec ∷ older)) adds
 
 abbrev pub WorkedKeeps : List Rec → Type 0
 WorkedKeeps log = (clause : Clause) → Keeps clause worked_origin worked_table log

@@ -44,26 +44,7 @@ use Rattle.row_model.specs.LegalRows.{LegalAlong, LegalTable, TableRule}
 use Rattle.row_model.specs.Rows.{IsInPlaceOrder, IsRows}
 use Rattle.row_model.specs.Locks.{is_gone}
 use Rattle.worked_logs.proofs.SecondIds.{live_701, live_702, live_703, second_legal}
-use Rattle.worked_logs.proofs.OneMore.{answered}
-
--- no table was dropped
-not_gone : (table : Locator) (log : List Rec) → is_gone table log ≡ false
-not_gone table [] = refl
-not_gone table (rec ∷ log) = not_gone table log
-
-no_locks : (older : List Rec) (rec : Rec) → LockRule second_origin worked_table older rec
-no_locks older rec =
-    record {
-      cut = λ blocks e. absurd (cc);
-      drop = λ e. absurd (false≢true e);
-      gone = λ e. absurd (false≢true (sym (not_gone worked_table older) ∙ e));
-    }
-
-all_true : (f : Rec → Bool) (log : List Rec) → list_all f log ≡ true → All (λ (rec : Rec). f rec ≡ true) log
-all_true f [] h = All-nil (λ (rec : Rec). f rec ≡ true)
-all_true f (rec ∷ log) h =
-    let (first, rest) = and_parts (f rec) (list_all f log) h in
-    All-cons (λ (r : Rec). f r ≡ true) rec log first (all_true f log rest)
+use Rattle.row_model.proofs.WorkedLog.{all_true, answered_view, no_locks}
 
 abbrev before_it : List Rec → List Version
 before_it older = versions second_origin worked_table older
@@ -96,7 +77,7 @@ plain older rec none checkpoint =
       blocks =
           subst (BlocksRule second_origin worked_table older (before_it older) (before_it (rec ∷ older))) (sym none)
           (All-nil (IsBlockRule older rec));
-      locks = no_locks older rec;
+      locks = no_locks second_origin worked_table older rec;
       checkpoint = checkpoint;
       multixacts = no_steps (MultixactStep older) older rec none;
     }
@@ -129,7 +110,7 @@ first_rule =
           one_block worked_start insert_by_700
           (record { id = 0; locator = worked_table; block = 0; will_init = true; image = None; tuples = first_tuple ∷ [] })
           (λ e. (tt, λ anew line. refl));
-      locks = no_locks worked_start insert_by_700;
+      locks = no_locks second_origin worked_table worked_start insert_by_700;
       checkpoint = tt;
       multixacts = (tt, tt);
     }
@@ -204,7 +185,7 @@ delete_rule =
       blocks =
           one_block second_checkpoint delete_by_701 deleted_block
           (λ e. (shows_image (before_it (delete_by_701 ∷ second_checkpoint)) (items_in page_image) deleted_versions image_items, λ anew. absurd (false≢true anew)));
-      locks = no_locks second_checkpoint delete_by_701;
+      locks = no_locks second_origin worked_table second_checkpoint delete_by_701;
       checkpoint = tt;
       multixacts = (tt, tt);
     }
@@ -225,7 +206,7 @@ rule_702 =
       removals = (tt, tt);
       cut = tt;
       blocks = one_block second_aborted insert_by_702 (block_one true) (λ e. (tt, λ anew line. refl));
-      locks = no_locks second_aborted insert_by_702;
+      locks = no_locks second_origin worked_table second_aborted insert_by_702;
       checkpoint = tt;
       multixacts = (tt, tt);
     }
@@ -243,7 +224,7 @@ rule_703 =
       cut = tt;
       blocks =
           one_block (insert_by_702 ∷ second_aborted) insert_by_703 (block_one false) (λ e. (tt, λ anew. absurd (false≢true anew)));
-      locks = no_locks (insert_by_702 ∷ second_aborted) insert_by_703;
+      locks = no_locks second_origin worked_table (insert_by_702 ∷ second_aborted) insert_by_703;
       checkpoint = tt;
       multixacts = (tt, tt);
     }
@@ -315,7 +296,7 @@ all_versions = refl
 second_legal_log : Legal worked_ids (transactions_of worked_log) → LegalLog second_origin (worked_table ∷ []) second_log
 unfolding are_apart
 second_legal_log worked =
-    let (view, redone_is) = answered (view_after second_origin (worked_table ∷ []) second_log) redone_ok in
+    let (view, redone_is) = answered_view (view_after second_origin (worked_table ∷ []) second_log) redone_ok in
     record {
       apart = all_true (λ (rec : Rec). are_apart rec.blocks) second_log refl;
       shutdowns = all_true is_redo_own second_log refl;

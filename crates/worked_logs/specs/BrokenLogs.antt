@@ -4,8 +4,8 @@
 use Rattle.std.specs.Prelude.{ℕ, pos, Bool, true, false, ◌≢◌, List, [], ◌∷◌, None}
 use Rattle.wal_bodies.specs.declared.types.RecBlock.{RecBlock}
 use Rattle.wal_bodies.specs.declared.types.Rec.{Rec}
-use Rattle.wal_bodies.specs.declared.types.RecKind.TheVariants.{Checkpoint, Delete, Ended, Images, Insert, Lock, MultiInsert, Running}
-use Rattle.row_model.specs.WorkedRows.{first_tuple, worked_block, worked_log, worked_origin, worked_record, worked_table}
+use Rattle.wal_bodies.specs.declared.types.RecKind.TheVariants.{Delete, Ended, Images, Insert, Lock, MultiInsert}
+use Rattle.row_model.specs.WorkedRows.{checkpoint_at, first_tuple, running_none, worked_block, worked_log, worked_origin, worked_record, worked_table}
 use Rattle.worked_logs.specs.Clauses.{Clause, Births, Deleters, Blocks, CheckpointLocks, Multixacts, Renews, Apart, Shutdowns, Transactions, Redone, Keeps}
 
 -- a log of the worked table breaks this clause, and keeps every other
@@ -46,39 +46,20 @@ commit_again = worked_record 0x20001F0 0x2000218 700 1 0x00 (Ended (pos 0) 0 [])
 abbrev pub block_twice : Rec
 block_twice = worked_record 0x20001F0 0x2000228 702 0 0xA0 Images (bare_block 0 false ∷ bare_block 1 false ∷ [])
 
--- a checkpoint with this info and redo position, and 702 as the next id
-abbrev pub checkpoint_at : ℕ → ℕ → ℕ → ℕ → Rec
-checkpoint_at start end info redo =
-    worked_record start end 0 0 info
-    (Checkpoint
-    (record { 0 = redo })
-    (record { 0 = 1 })
-    (record { 0 = 1 })
-    true
-    (record { 0 = 702 })
-    1
-    0
-    1
-    (record { 0 = 702 }))
-    []
-
 -- a shutdown checkpoint with the redo position of the online one before it
 abbrev pub shutdown_elsewhere : Rec
-shutdown_elsewhere = checkpoint_at 0x20001F0 0x2000268 0x00 0x2000028
+shutdown_elsewhere = checkpoint_at 0x20001F0 0x2000268 0x00 0x2000028 702
 
 -- an online checkpoint at whose own start redo begins: no running record stands between
 abbrev pub checkpoint_alone : Rec
-checkpoint_alone = checkpoint_at 0x20001F0 0x2000268 0x10 0x20001F0
+checkpoint_alone = checkpoint_at 0x20001F0 0x2000268 0x10 0x20001F0 702
 
 -- nothing runs, an online checkpoint with its redo position there, and 702 inserts at line 3 without an image
 abbrev pub running_again : Rec
-running_again =
-    worked_record 0x20001F0 0x2000228 0 8 0x10
-    (Running 0 0 false (record { 0 = 702 }) (record { 0 = 702 }) (record { 0 = 701 }) [])
-    []
+running_again = running_none 0x20001F0 0x2000228 702
 
 abbrev pub checkpoint_again : Rec
-checkpoint_again = checkpoint_at 0x2000228 0x20002A0 0x10 0x20001F0
+checkpoint_again = checkpoint_at 0x2000228 0x20002A0 0x10 0x20001F0 702
 
 abbrev pub insert_without_image : Rec
 insert_without_image = worked_record 0x20002A0 0x20002F0 702 10 0x00 (Insert 3 0) (worked_block false first_tuple)

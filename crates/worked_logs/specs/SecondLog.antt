@@ -8,7 +8,7 @@ use Rattle.pg_types.specs.declared.names.Locator.{Locator}
 use Rattle.wal_bodies.specs.declared.types.RecImage.{RecImage}
 use Rattle.wal_bodies.specs.declared.types.RecBlock.{RecBlock}
 use Rattle.wal_bodies.specs.declared.types.Rec.{Rec}
-use Rattle.wal_bodies.specs.declared.types.RecKind.TheVariants.{Checkpoint, Delete, Ended, Insert, Running}
+use Rattle.wal_bodies.specs.declared.types.RecKind.TheVariants.{Delete, Ended, Insert}
 use Rattle.heap_tuple.specs.declared.tuple_view.MaxOf.TheVariants.{None as NoDeleter, Xid as DeletedBy}
 use Rattle.transaction_model.specs.LegalTransactions.{TransactionOrigin}
 use Rattle.row_model.specs.Versions.{Version, By}
@@ -17,7 +17,7 @@ use Rattle.row_model.specs.Multixacts.{multixacts}
 use Rattle.row_model.specs.RowSteps.{versions}
 use Rattle.row_model.specs.Rows.{IsRows}
 use Rattle.row_model.specs.LegalRows.{LegalLog}
-use Rattle.row_model.specs.WorkedRows.{first_row, first_tuple, first_values, worked_first, worked_record, worked_table}
+use Rattle.row_model.specs.WorkedRows.{checkpoint_at, first_row, first_tuple, first_values, running_none, worked_first, worked_record, worked_table}
 
 -- 703 is a subtransaction of 702
 abbrev pub second_top : ℕ → ℕ
@@ -32,25 +32,10 @@ second_origin = record { transactions = second_ids; tables = λ (table : Locator
 
 -- nothing runs, and 701 is the next id
 abbrev pub running_701 : Rec
-running_701 =
-    worked_record 0x2000178 0x20001B0 0 8 0x10
-    (Running 0 0 false (record { 0 = 701 }) (record { 0 = 701 }) (record { 0 = 700 }) [])
-    []
+running_701 = running_none 0x2000178 0x20001B0 701
 
 abbrev pub checkpoint_701 : Rec
-checkpoint_701 =
-    worked_record 0x20001B0 0x2000228 0 0 0x10
-    (Checkpoint
-    (record { 0 = 0x2000178 })
-    (record { 0 = 1 })
-    (record { 0 = 1 })
-    true
-    (record { 0 = 701 })
-    1
-    0
-    1
-    (record { 0 = 701 }))
-    []
+checkpoint_701 = checkpoint_at 0x20001B0 0x2000228 0x10 0x2000178 701
 
 -- the tuple of line 1 once 701 deleted it: xmax 701, keys updated (0x2000), xmin known committed (0x0100)
 abbrev pub deleted_tuple : List ℕ

@@ -7,7 +7,7 @@ use Rattle.standby_model.specs.Archived.{told_by}
 use Rattle.standby_model.specs.Log.{IsLog, Stands, Stop, next_of}
 use Rattle.row_model.specs.LegalRows.{LegalLog}
 use Rattle.row_model.specs.WorkedRows.{worked_origin}
-use Rattle.scan_model.specs.Run.{origin}
+use Rattle.run_model.specs.Origin.{origin}
 use Rattle.worked_archive.specs.WorkedArchive.{IsWorkedArchive, files, known, log}
 use Rattle.worked_logs.specs.ArchiveLog.{ArchiveIsLegal}
 use Rattle.row_model.specs.Prefixes.{PrefixIsLegal}

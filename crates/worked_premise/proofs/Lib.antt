@@ -1,6 +1,10 @@
-mod Answered
 mod Bytes
 mod Fronts
-mod Replayed
+mod Legal
+mod Node
+mod Redone
+mod Rows
+mod Scanned
 mod Schema
+mod StandbyOnce
 mod Told

@@ -14,7 +14,7 @@ use Rattle.standby_core.specs.Standby.{described_in}
 use Rattle.standby_model.specs.Archived.{told_by}
 use Rattle.wal_bodies.specs.Ends.{end_of}
 use Rattle.standby_model.specs.Log.{IsLog, Stands, Ended, link_after, next_of, record_at, typed_of, unless_refused}
-use Rattle.scan_model.specs.Run.{origin}
+use Rattle.run_model.specs.Origin.{origin}
 use Rattle.worked_premise.specs.WorkedSchema.{tables}
 use Rattle.worked_archive.specs.WorkedArchive.{AreTyped, IsWorkedArchive, entries, files, log}
 

@@ -3,7 +3,7 @@
 use Rattle.std.specs.Prelude.{ℕ, Bool, List, Option, None, Result}
 use Rattle.pg_types.specs.declared.names.Xid.{Xid}
 use Rattle.pg_types.specs.declared.status.Unknown.{Unknown}
-use Rattle.standby_snapshot.specs.Snapshot.{no_parents, take_of}
+use Rattle.standby_snapshot.specs.Snapshot.{SnapshotData, no_parents, take_of}
 use Rattle.tuple_visibility.specs.Visible.{visible_of}
 use Rattle.xact_redo.specs.State.{TransactionState}
 
@@ -11,6 +11,10 @@ use Rattle.xact_redo.specs.State.{TransactionState}
 abbrev pub no_multixacts : ℕ → Option (Option Xid)
 no_multixacts id = None
 
+-- whether a snapshot sees a tuple, by the statuses of this state
+abbrev pub sees_by : SnapshotData → TransactionState → List ℕ → Result Bool Unknown
+sees_by snapshot state tuple = visible_of tuple snapshot no_parents state.statuses no_multixacts
+
 -- whether a snapshot of this state sees a tuple
 abbrev pub sees : TransactionState → List ℕ → Result Bool Unknown
-sees state tuple = visible_of tuple (take_of state.known) no_parents state.statuses no_multixacts
+sees state tuple = sees_by (take_of state.known) state tuple

@@ -10,7 +10,7 @@ pub loop-k-init : goal.loop-k-init
 loop-k-init c = taken-none c.args.page.now c.args.taken.now c.requires.units c.requires.free
 
 pub pointer_at-pointer-requires : goal.pointer_at-pointer-requires
-pointer_at-pointer-requires c = omega (arith, lines-few c.args.page.now c.requires.header)
+pointer_at-pointer-requires c = omega (arith, lines-few c.args.page.now c.requires.lines.header)
 
 pub take_units-requires-clause-order : goal.take_units-requires-clause-order
 take_units-requires-clause-order c =
@@ -20,7 +20,7 @@ pub take_units-requires-clause-units : goal.take_units-requires-clause-units
 take_units-requires-clause-units c =
     let below : c.loop-k.k < line_count c.args.page.now = omega arith in
     let normal : state_in (pointer_of c.args.page.now c.loop-k.k) ≡ 1 = sym c.pointer_at-pointer.ensures.state ∙ c.if-pointer-eq-NORMAL.true in
-    let room = room-placed c.args.page.now (pointer_of c.args.page.now c.loop-k.k) (lines-placed c.args.page.now (line_count c.args.page.now) c.requires.placed c.loop-k.k below normal) c.keeps_size.ensures in
+    let room = room-placed c.args.page.now (pointer_of c.args.page.now c.loop-k.k) (lines-placed c.args.page.now (line_count c.args.page.now) c.requires.lines.placed c.loop-k.k below normal) c.keeps_size.ensures in
     room-units c.args.page.now c.loop-k.k (c.end_of_room.result / 8) c.loop-k.taken room
     (end-read c.args.page.now c.loop-k.k c.pointer_at-pointer.result.offset c.pointer_at-pointer.result.length c.end_of_room.result c.pointer_at-pointer.ensures.offset c.pointer_at-pointer.ensures.length c.end_of_room.ensures)
     (c.loop-k.auto.taken ∙ c.requires.units)
@@ -40,7 +40,7 @@ loop-k-preserved c =
       | then-pointer-eq-NORMAL+else-not-take_units w ↦
           let below : c.loop-k.k < line_count c.args.page.now = omega arith in
           let normal : state_in (pointer_of c.args.page.now c.loop-k.k) ≡ 1 = sym c.pointer_at-pointer.ensures.state ∙ w.if-pointer-eq-NORMAL.true in
-          let room = room-placed c.args.page.now (pointer_of c.args.page.now c.loop-k.k) (lines-placed c.args.page.now (line_count c.args.page.now) c.requires.placed c.loop-k.k below normal) c.keeps_size.ensures in
+          let room = room-placed c.args.page.now (pointer_of c.args.page.now c.loop-k.k) (lines-placed c.args.page.now (line_count c.args.page.now) c.requires.lines.placed c.loop-k.k below normal) c.keeps_size.ensures in
           subst (TakenBelow c.args.page.now (c.loop-k.k + 1)) (sym w.taken-is)
           (taken-line c.args.page.now c.loop-k.k (c.pointer_at-pointer.result.offset / 8) (w.end_of_room.result / 8) c.loop-k.taken w.take_units.new.taken c.loop-k.invariant normal room
           (first-read c.args.page.now c.loop-k.k c.pointer_at-pointer.result.offset c.pointer_at-pointer.ensures.offset)

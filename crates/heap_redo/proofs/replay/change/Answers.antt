@@ -1,5 +1,6 @@
 use Rattle.std.proofs.Common.{ap, sym, ◌∙◌, ◌≡◌, Some, is_ok}
 use Rattle.std.proofs.lemmas.Result.{on_err_weaker}
+use Rattle.pg_types.specs.declared.names.Tag.{Tag}
 use Rattle.page_store.specs.Content.{content, with_block}
 use Rattle.heap_redo.specs.Refused.{pool_fault_at}
 use Rattle.page_store.specs.Seen.{view_of, seen}
@@ -12,7 +13,7 @@ pub returns-in-Ok-clause-answer : goal.returns-in-Ok-clause-answer
 returns-in-Ok-clause-answer c =
     let rec = c.args.rec.now in
     let block = c.args.block.now in
-    let tag = c.args.tag in
+    let tag : Tag = record { table = c.args.table; block = c.args.block.now.block } in
     let blocks = content c.args.pool.now in
     let bytes = c.change_page.new.page in
     let held = (c.page.follows.holds bytes (ap is_ok c.in-Ok.is)).blocks in
@@ -20,11 +21,11 @@ returns-in-Ok-clause-answer c =
     page-there (blocks tag.table tag.block) c.in-Ok.page.now c.in-Ok.ensures.answer in
     page-outcome rec block (view_of blocks) tag c.requires.anew (view_of (content (c.page.follows.lender bytes))) bytes
     (ap view_of held ∙ view-with_block blocks tag bytes) c.change_page.result (redone_block rec block (seen (blocks tag.table tag.block)))
-    (c.change_page.ensures.answer ∙ ap (λ here. fault_by rec block (redone_block rec block (seen here))) (sym there))
+    (c.change_page.ensures.answer ∙ ap (λ here. fault_by block (redone_block rec block (seen here))) (sym there))
 
 pub returns-in-Ok-clause-err : goal.returns-in-Ok-clause-err
 returns-in-Ok-clause-err c =
-    let tag = c.args.tag in
+    let tag : Tag = record { table = c.args.table; block = c.args.block.now.block } in
     let blocks = content c.args.pool.now in
     let bytes = c.change_page.new.page in
     let held = (c.page.follows.holds bytes (ap is_ok c.in-Ok.is)).blocks in
@@ -36,8 +37,8 @@ pub returns-in-Err-clause-answer : goal.returns-in-Err-clause-answer
 returns-in-Err-clause-answer c =
     let rec = c.args.rec.now in
     let block = c.args.block.now in
-    let tag = c.args.tag in
+    let tag : Tag = record { table = c.args.table; block = c.args.block.now.block } in
     let blocks = content c.args.pool.now in
     let fault = c.in-Err.fault in
-    err-is c.pool_fault.result (pool_fault_at rec block fault) c.pool_fault.ensures
-    ∙ missing-outcome rec block (view_of blocks) tag (below-last block.block c.requires.block) c.requires.anew c.requires.left (blocks tag.table tag.block) fault c.in-Err.ensures.answer
+    err-is c.pool_fault.result (pool_fault_at block fault) c.pool_fault.ensures
+    ∙ missing-outcome rec block (view_of blocks) tag (below-last block.block c.requires.changes.below) c.requires.anew c.requires.changes.left (blocks tag.table tag.block) fault c.in-Err.ensures.answer

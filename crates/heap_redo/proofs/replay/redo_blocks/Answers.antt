@@ -3,7 +3,7 @@ use Rattle.std.proofs.lemmas.Grind.{common_steps}
 use Rattle.page_store.specs.Content.{content}
 use Rattle.heap_redo.specs.declared.fault.RedoFault.{RedoFault}
 use Rattle.page_store.specs.Seen.{View, view_of}
-use Rattle.heap_redo.specs.Redone.{Outcome, redone, redone_at, Stands}
+use Rattle.heap_redo.specs.Redone.{Outcome, redone_at, Stands}
 use Rattle.heap_redo.proofs.Sequence.{redone-none, redone-more, redone-stops, redone-front, next-there}
 use Rattle.heap_redo.proofs.replay.redo_blocks.Goals as goal
 

@@ -1,4 +1,4 @@
-use Rattle.std.proofs.Common.{◌≡◌, ◌∙◌, Some, None, sym, ap, arith, subst}
+use Rattle.std.proofs.Common.{◌∙◌, Some, sym, ap, arith, subst}
 use Rattle.std.specs.Prelude.{option_map}
 use Rattle.wal_record.specs.Views.{block_of_view}
 use Rattle.wal_bodies.specs.Typed.{block_with}

@@ -1,5 +1,3 @@
-use Rattle.std.proofs.Common.{◌≡◌, ◌+◌, ◌-◌, ◌∙◌, ◌&&◌, ℕ, Bool, List, true, false, length, get_or, take, drop, sym, ap, refl, arith}
-use Rattle.heap_page.specs.Joined.{joined}
 use Rattle.heap_page.proofs.Parted as parted
 use Rattle.heap_page.proofs.block_parts.BlockParts.block.Goals as goal
 

@@ -1,5 +1,4 @@
-use Rattle.std.proofs.Common.{◌≡◌, ◌+◌, ◌-◌, ◌∙◌, ◌&&◌, ℕ, Bool, List, true, false, length, get_or, take, drop, sym, ap, refl, arith}
-use Rattle.heap_page.specs.Joined.{joined}
+use Rattle.std.proofs.Common.{◌∙◌, ℕ, List, get_or, ap, arith}
 use Rattle.heap_page.proofs.Parted as parted
 use Rattle.heap_page.proofs.block_parts.BlockParts.byte_at.Goals as goal
 

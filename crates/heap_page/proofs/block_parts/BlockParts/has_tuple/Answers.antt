@@ -1,6 +1,5 @@
-use Rattle.std.proofs.Common.{◌≡◌, ◌+◌, ◌-◌, ◌∙◌, ◌&&◌, ℕ, Bool, List, true, false, length, get_or, take, drop, sym, ap, refl, arith}
+use Rattle.std.proofs.Common.{◌≡◌, ◌-◌, ◌∙◌, ℕ, List, length, take, drop, ap, arith}
 use Rattle.heap_tuple.specs.Tuple.{is_tuple}
-use Rattle.heap_page.specs.Joined.{joined}
 use Rattle.heap_page.proofs.Parted as parted
 use Rattle.heap_page.proofs.block_parts.BlockParts.has_tuple.Goals as goal
 

@@ -1,4 +1,4 @@
-use Rattle.std.proofs.Common.{◌≡◌, ◌+◌, ◌-◌, ◌∙◌, ◌&&◌, ℕ, Bool, List, true, false, length, get_or, take, drop, sym, ap, refl, arith}
+use Rattle.std.proofs.Common.{◌≡◌, ◌∙◌, ◌&&◌, Bool, true, false, sym, ap}
 use Rattle.std.proofs.lemmas.Bool.{false≢true}
 use Rattle.heap_page.specs.Page.{is_zeros}
 use Rattle.heap_page.proofs.Parted as parted

@@ -1,6 +1,5 @@
-use Rattle.std.proofs.Common.{◌≡◌, ◌+◌, ◌-◌, ◌∙◌, ◌&&◌, ℕ, Bool, List, true, false, length, get_or, take, drop, sym, ap, refl, arith}
+use Rattle.std.proofs.Common.{◌∙◌, ℕ, List, ap}
 use Rattle.pg_types.specs.Numbers.{number_at}
-use Rattle.heap_page.specs.Joined.{joined}
 use Rattle.heap_page.proofs.Parted as parted
 use Rattle.heap_page.proofs.block_parts.BlockParts.u32_at.Goals as goal
 

@@ -1,4 +1,3 @@
-use Rattle.std.proofs.Common.{ℕ}
 use Rattle.heap_page.proofs.Parted.{zeros_at}
 use Rattle.heap_page.proofs.typed_page.HeapPage.new.Goals as goal
 

@@ -1,6 +1,5 @@
 use Rattle.std.proofs.Common.{rules, ℕ, List, ◌≡◌, ◌≤◌, ◌-◌, ◌∙◌, ap, arith, length, vec_len}
 use Rattle.std.specs.Vec.{vec_capacity}
-use Rattle.known_assigned.specs.Ids.{numbers, with_ids}
 use Rattle.known_assigned.specs.Slots.{Places, live_ids}
 use Rattle.known_assigned.proofs.Slotted.{filter-from_zero, length-live_ids}
 use Rattle.known_assigned.proofs.running_set.RunningSet.replace.Goals as goal
@@ -14,24 +13,9 @@ fill-requires-clause-room c =
     let spare : vec_capacity c.self.inside.slots - vec_len c.self.inside.slots ≡ c.args.self.now.spare = ap (λ (p : Places). p.spare) c.self.view_is in
     omega (arith, c.requires, c.clear.ensures.capacity)
 
-pub loop-xid-init : goal.loop-xid-init
-loop-xid-init c =
-    let whole : vec_len c.self.inside.slots ≤ vec_capacity c.self.inside.slots = search rules in
-    let long : length c.self.inside.slots.items ≡ vec_len c.self.inside.slots = search rules in
-    let few = length-live_ids c.self.inside.slots.items in
-    let count : length (live_ids c.self.inside.slots.items) ≡ length c.args.self.now.xids = ap (λ (p : Places). length p.xids) c.self.view_is in
-    let spare : vec_capacity c.self.inside.slots - vec_len c.self.inside.slots ≡ c.args.self.now.spare = ap (λ (p : Places). p.spare) c.self.view_is in
-    let empty : length c.fill.new.slots.items ≡ 0 = ap length c.if-fill.ensures.left in
-    let none : length c.fill.new.slots.items ≡ vec_len c.fill.new.slots = search rules in
-    record {
-      xids = ap (λ l. with_ids (numbers c.args.xids.now) (live_ids l)) c.if-fill.ensures.left;
-      room = omega (arith, c.requires, c.clear.ensures.capacity, c.if-fill.ensures.capacity);
-      kept = omega (arith, c.clear.ensures.capacity, c.if-fill.ensures.capacity);
-    }
-
-pub returns-then-fill-clause-xids : goal.returns-then-fill-clause-xids
-returns-then-fill-clause-xids c =
-    c.passed-self-inside.ensures.ids ∙ filter-from_zero (live_ids c.fill.new.slots.items) ∙ c.if-fill.ensures.ids
+pub returns-clause-xids : goal.returns-clause-xids
+returns-clause-xids c =
+    c.passed-self-inside.ensures.ids ∙ filter-from_zero (live_ids c.fill.new.slots.items) ∙ c.fill.ensures.ids
 
 pub invariant_of-self : goal.invariant_of-self
 invariant_of-self c =
@@ -42,5 +26,5 @@ invariant_of-self c =
     let whole : length after ≡ length placed = search rules in
     record {
       order = c.passed-self-inside.ensures.order;
-      few = omega (arith, c.if-fill.ensures.live, same, whole);
+      few = omega (arith, c.fill.ensures.live, same, whole);
     }

@@ -1,7 +1,6 @@
 use Rattle.std.proofs.Common.{◌≡◌, ◌∙◌, Err, ap, arith, refl, sym, subst}
 use Rattle.std.proofs.lemmas.Grind.{common_steps}
 use Rattle.page_store.specs.Content.{content}
-use Rattle.table_schema.specs.Description.{locators}
 use Rattle.page_store.specs.Seen.{view_of}
 use Rattle.wal_bodies.specs.Typed.{typed}
 use Rattle.xact_redo.specs.State.{transactions}

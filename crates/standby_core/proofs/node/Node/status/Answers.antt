@@ -1,6 +1,7 @@
 use Rattle.std.proofs.Common.{◌≡◌, sym}
 use Rattle.xact_redo.specs.State.{transactions}
-use Rattle.standby_core.specs.View.{standby, node_status}
+use Rattle.standby_core.specs.Standby.{node_status}
+use Rattle.standby_core.specs.View.{standby}
 use Rattle.standby_core.proofs.Replaying.{same_lsn}
 use Rattle.standby_core.proofs.node.Node.status.Goals as goal
 

@@ -1,5 +1,5 @@
 use Rattle.std.proofs.Common.{◌≡◌, refl, sym, ap, ◌∙◌, ℕ, None, Ok, Err}
-use Rattle.wal_reader.specs.declared.types.Halt.TheVariants.{GivesUp}
+use Rattle.wal_reader.specs.Halt.{GivesUp}
 use Rattle.wal_reader.specs.Gathered.{place_at}
 use Rattle.wal_reader.specs.Step.{attempt, in_place_of, step}
 use Rattle.wal_reader.specs.Calls.{Gathering, Says, told_to}

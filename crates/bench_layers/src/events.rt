@@ -1,0 +1,98 @@
+//! The records of small transactions.
+ghost use Rattle.std.specs.Prelude.{◌≡◌, ◌+◌};
+ghost use Rattle.xact_redo.specs.State.{AreIdsInRange};
+
+use pg_types::{Lsn, Xid};
+use wal_bodies::{Rec, RecBlocks, RecKind, Xids};
+use wal_record::RecordHead;
+
+/// The id of the first transaction.
+const FIRST: u64 = 700;
+
+/// The id of the transaction with this number.
+pub fn xid_of(number: u32) -> Xid
+    ensures { result.0 ≡ 700 + number }
+{
+    Xid(FIRST + u64::from(number))
+}
+
+/// Where the records of the transaction with this number begin.
+fn position_of(number: u32) -> Lsn {
+    Lsn(0x200_0028 + 0x60 * u64::from(number))
+}
+
+/// A record of this transaction and kind, of 0x30 bytes.
+fn record<'a>(head: RecordHead, start: Lsn, kind: RecKind<'a>) -> Rec<'a>
+    ensures head { result.head ≡ head }
+    ensures kind { result.kind ≡ kind.entry }
+{
+    Rec {
+        head,
+        start,
+        end: Lsn(start.0.wrapping_add(0x30)),
+        kind,
+        blocks: RecBlocks::none(),
+    }
+}
+
+/// No transaction runs, and the next one is the first: after this record snapshots can be taken.
+pub fn running<'a>() -> Rec<'a>
+    ensures { AreIdsInRange result }
+{
+    let head = RecordHead {
+        total: 0x30,
+        xid: Xid(0),
+        prev: Lsn(0),
+        info: 0x10,
+        manager: 8,
+    };
+    let kind = RecKind::Running {
+        tops: 0,
+        subs: 0,
+        overflow: false,
+        next: Xid(FIRST),
+        oldest: Xid(FIRST),
+        latest: Xid(FIRST - 1),
+        xids: Xids::none(),
+    };
+    record(head, Lsn(0x200_0000), kind)
+}
+
+/// The transaction with this number inserts a row, and so is seen for the first time.
+pub fn insert<'a>(number: u32) -> Rec<'a>
+    ensures { AreIdsInRange result }
+{
+    let head = RecordHead {
+        total: 0x30,
+        xid: xid_of(number),
+        prev: Lsn(0),
+        info: 0x00,
+        manager: 10,
+    };
+    let kind = RecKind::Insert { line: 1, flags: 0 };
+    record(head, position_of(number), kind)
+}
+
+/// Whether the transaction with this number aborts, as every tenth does.
+pub fn does_abort(number: u32) -> bool {
+    number % 10 == 9
+}
+
+/// The transaction with this number commits, or aborts.
+pub fn end<'a>(number: u32) -> Rec<'a>
+    ensures { AreIdsInRange result }
+{
+    let head = RecordHead {
+        total: 0x30,
+        xid: xid_of(number),
+        prev: Lsn(0),
+        info: if does_abort(number) { 0x20 } else { 0x00 },
+        manager: 1,
+    };
+    let kind = RecKind::Ended {
+        time: 0,
+        xinfo: 0,
+        xids: Xids::none(),
+    };
+    record(head, position_of(number), kind)
+}

@@ -1,0 +1,5 @@
+mod Along
+mod Carried
+mod Kept
+mod Plain
+mod WorkedKept

@@ -1,0 +1,162 @@
+-- The held scans of a node and of the abstract standby, one for one.
+use Rattle.std.proofs.Common.{◌≡◌, ℕ, ◌+◌, ◌<◌, ◌==◌, Bool, true, false, nat_lt, List, [], ◌∷◌, ◌++◌, length, Option, Some, None, arith, refl, sym, ap, subst, if◌then◌else◌, inr}
+use Rattle.std.specs.Prelude.{is_some}
+use Rattle.std.proofs.lemmas.Bool.{lt-ltb, ltb-true}
+use Rattle.wal_bodies.specs.declared.types.Rec.{Rec}
+use Rattle.seq_scan.specs.Scans.{OpenScan, after_page, has_more}
+use Rattle.standby_core.specs.declared.scans.NodeScan.{NodeScan}
+use Rattle.standby_core.specs.Scans.{moved_on, scan_with, without}
+use Rattle.legal_session.specs.AbstractStandby.{AbstractScan, World, given_block, scan_in, without_scan}
+use Rattle.legal_session.specs.Represents.{StandForScans, StandsForScan}
+
+pub same_count :
+    (w : World) (life : List Rec) (ones : List NodeScan) (scans : List AbstractScan) → StandForScans w life ones scans
+    → length ones ≡ length scans
+same_count w life [] [] all = refl
+same_count w life [] (scan ∷ scans) all = absurd all
+same_count w life (one ∷ ones) [] all = absurd all
+same_count w life (one ∷ ones) (scan ∷ scans) (first, rest) = let same = same_count w life ones scans rest in omega (arith, same)
+
+-- one more record
+later_one :
+    (w : World) (rec : Rec) (life : List Rec) (one : NodeScan) (scan : AbstractScan) → StandsForScan w life one scan
+    → StandsForScan w (rec ∷ life) one scan
+later_one w rec life one scan is = record {
+  id = is.id;
+  table = is.table;
+  described = is.described;
+  later = rec ∷ is.later;
+  opened = ap (λ (log : List Rec). rec ∷ log) is.opened;
+  ready = is.ready;
+  snapshot = is.snapshot;
+  blocks = is.blocks;
+  given = is.given;
+  inside = is.inside;
+}
+
+pub later_scans :
+    (w : World) (rec : Rec) (life : List Rec) (ones : List NodeScan) (scans : List AbstractScan) → StandForScans w life ones scans
+    → StandForScans w (rec ∷ life) ones scans
+later_scans w rec life [] [] all = tt
+later_scans w rec life [] (scan ∷ scans) all = absurd all
+later_scans w rec life (one ∷ ones) [] all = absurd all
+later_scans w rec life (one ∷ ones) (scan ∷ scans) (first, rest) =
+    (later_one w rec life one scan first, later_scans w rec life ones scans rest)
+
+-- one more scan
+pub one_opened :
+    (w : World) (life : List Rec) (ones : List NodeScan) (scans : List AbstractScan) (one : NodeScan) (scan : AbstractScan)
+    → StandsForScan w life one scan → StandForScans w life ones scans → StandForScans w life (ones ++ one ∷ []) (scans ++ scan ∷ [])
+one_opened w life [] [] one scan is all = (is, tt)
+one_opened w life [] (other ∷ scans) one scan is all = absurd all
+one_opened w life (other ∷ ones) [] one scan is all = absurd all
+one_opened w life (other ∷ ones) (that ∷ scans) one scan is (first, rest) = (first, one_opened w life ones scans one scan is rest)
+
+-- one that is found under an id
+abbrev pub AreFound : World → List Rec → Option OpenScan → Option AbstractScan → Type 0
+AreFound w life None None = Unit {0}
+AreFound w life None (Some scan) = ⊥
+AreFound w life (Some held) None = ⊥
+AreFound w life (Some held) (Some scan) = (one : NodeScan) × (one.scan ≡ held) × StandsForScan w life one scan
+
+module _ (w : World) (life : List Rec) (id : ℕ) where
+  same_test : (one : NodeScan) (scan : AbstractScan) → StandsForScan w life one scan → (one.id == id) ≡ (scan.id == id)
+  same_test one scan is = ap (λ (n : ℕ). n == id) is.id
+
+  found_first :
+      (a b : Bool) (one : NodeScan) (scan : AbstractScan) (rest : Option OpenScan) (others : Option AbstractScan) → a ≡ b
+      → StandsForScan w life one scan → AreFound w life rest others
+      → AreFound w life (if a then Some one.scan else rest) (if b then Some scan else others)
+  found_first true true one scan rest others e is later = (one, refl, is)
+  found_first false false one scan rest others e is later = later
+  found_first true false one scan rest others e is later = cc
+  found_first false true one scan rest others e is later = cc
+
+  pub are_found :
+      (ones : List NodeScan) (scans : List AbstractScan) → StandForScans w life ones scans
+      → AreFound w life (scan_with id ones) (scan_in id scans)
+  are_found [] [] all = tt
+  are_found [] (scan ∷ scans) all = absurd all
+  are_found (one ∷ ones) [] all = absurd all
+  are_found (one ∷ ones) (scan ∷ scans) (first, rest) =
+      found_first (one.id == id) (scan.id == id) one scan (scan_with id ones) (scan_in id scans) (same_test one scan first) first
+      (are_found ones scans rest)
+
+  pub both_found : (held : Option OpenScan) (scan : Option AbstractScan) → AreFound w life held scan → is_some held ≡ is_some scan
+  both_found None None are = refl
+  both_found None (Some scan) are = absurd are
+  both_found (Some held) None are = absurd are
+  both_found (Some held) (Some scan) are = refl
+
+  without_first :
+      (a b : Bool) (one : NodeScan) (scan : AbstractScan) (ones others : List NodeScan) (scans those : List AbstractScan) → a ≡ b
+      → StandsForScan w life one scan → StandForScans w life ones scans → StandForScans w life others those
+      → StandForScans w life (if a then ones else one ∷ others) (if b then scans else scan ∷ those)
+  without_first true true one scan ones others scans those e is rest later = rest
+  without_first false false one scan ones others scans those e is rest later = (is, later)
+  without_first true false one scan ones others scans those e is rest later = cc
+  without_first false true one scan ones others scans those e is rest later = cc
+
+  pub are_without :
+      (ones : List NodeScan) (scans : List AbstractScan) → StandForScans w life ones scans
+      → StandForScans w life (without id ones) (without_scan id scans)
+  are_without [] [] all = tt
+  are_without [] (scan ∷ scans) all = absurd all
+  are_without (one ∷ ones) [] all = absurd all
+  are_without (one ∷ ones) (scan ∷ scans) (first, rest) =
+      without_first (one.id == id) (scan.id == id) one scan ones (without id ones) scans (without_scan id scans)
+      (same_test one scan first) first rest (are_without ones scans rest)
+
+  -- one that has more goes on
+  less_than : (a b : ℕ) → nat_lt a b ≡ true → a < b
+  less_than a b e = ltb-true a b e
+
+  after_more : (held : OpenScan) → has_more held ≡ true → after_page held ≡ record held { given = held.given + 1 }
+  after_more held more =
+      let less = less_than (held.given + 1) held.blocks more in
+      ap (λ (t : Bool). if t then record held { given = held.given + 1 } else held) (lt-ltb held.given held.blocks (omega (arith, less)))
+
+  one_on :
+      (one : NodeScan) (scan : AbstractScan) → has_more one.scan ≡ true → StandsForScan w life one scan
+      → StandsForScan w life (record one { scan = after_page one.scan }) (record scan { given = scan.given + 1 })
+  one_on one scan more is =
+      let less = less_than (one.scan.given + 1) one.scan.blocks more in
+      let given = is.given in
+      subst (λ (held : OpenScan). StandsForScan w life (record one { scan = held }) (record scan { given = scan.given + 1 }))
+      (sym (after_more one.scan more))
+      (record {
+        id = is.id;
+        table = is.table;
+        described = is.described;
+        later = is.later;
+        opened = is.opened;
+        ready = is.ready;
+        snapshot = is.snapshot;
+        blocks = is.blocks;
+        given = ap (λ (n : ℕ). n + 1) is.given;
+        inside = inr (subst (λ (n : ℕ). n + 1 < one.scan.blocks) given less);
+      })
+
+  moved_first :
+      (a b : Bool) (one : NodeScan) (scan : AbstractScan) (ones others : List NodeScan) (scans those : List AbstractScan)
+      (rest : Option OpenScan) → a ≡ b
+      → ((held : OpenScan) → (if a then Some one.scan else rest) ≡ Some held → has_more held ≡ true)
+      → StandsForScan w life one scan → StandForScans w life ones scans
+      → (((held : OpenScan) → rest ≡ Some held → has_more held ≡ true) → StandForScans w life others those)
+      → StandForScans w life (if a then record one { scan = after_page one.scan } ∷ ones else one ∷ others)
+      (if b then record scan { given = scan.given + 1 } ∷ scans else scan ∷ those)
+  moved_first true true one scan ones others scans those rest e more is all later = (one_on one scan (more one.scan refl) is, all)
+  moved_first false false one scan ones others scans those rest e more is all later = (is, later more)
+  moved_first true false one scan ones others scans those rest e more is all later = cc
+  moved_first false true one scan ones others scans those rest e more is all later = cc
+
+  pub are_moved :
+      (ones : List NodeScan) (scans : List AbstractScan)
+      → ((held : OpenScan) → scan_with id ones ≡ Some held → has_more held ≡ true) → StandForScans w life ones scans
+      → StandForScans w life (moved_on id ones) (given_block id scans)
+  are_moved [] [] more all = tt
+  are_moved [] (scan ∷ scans) more all = absurd all
+  are_moved (one ∷ ones) [] more all = absurd all
+  are_moved (one ∷ ones) (scan ∷ scans) more (first, rest) =
+      moved_first (one.id == id) (scan.id == id) one scan ones (moved_on id ones) scans (given_block id scans) (scan_with id ones)
+      (same_test one scan first) more first rest (λ on. are_moved ones scans on rest)

@@ -1,0 +1,3 @@
+pub mod AbstractStandby
+pub mod Represents
+pub mod WholeScans

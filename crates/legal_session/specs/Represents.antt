@@ -1,0 +1,78 @@
+-- When a node stands for the abstract standby, and the law that its steps are then the abstract ones.
+use Rattle.std.specs.Prelude.{◌≡◌, ◌⊎◌, ℕ, ◌<◌, List, [], ◌∷◌, ◌++◌, Option, Some, Ok}
+use Rattle.wal_bodies.specs.declared.types.Rec.{Rec}
+use Rattle.heap_redo.specs.Redone.{table_of}
+use Rattle.known_assigned.specs.declared.state.State.TheVariants.{Ready}
+use Rattle.record_numbers.specs.Bytes.{TellsBytes}
+use Rattle.standby_snapshot.specs.Snapshot.{take_of}
+use Rattle.table_schema.specs.Description.{Description, locators}
+use Rattle.table_schema.specs.Reading as schema
+use Rattle.table_schema.specs.Tables.{file_of}
+use Rattle.page_store.specs.Seen.{absent}
+use Rattle.row_model.specs.RowSteps.{block_count, view_after}
+use Rattle.row_visibility.specs.Sees.{state_along}
+use Rattle.standby_model.specs.Log.{Stands, link_after}
+use Rattle.standby_core.specs.declared.scans.NodeScan.{NodeScan}
+use Rattle.standby_core.specs.declared.types.Origin.{Origin}
+use Rattle.standby_core.specs.Standby.{Standby, at_origin, described_in, told_to}
+use Rattle.session_model.specs.Laws.{Simulates}
+use Rattle.session_model.specs.NodeSteps.{NodeStep}
+use Rattle.legal_session.specs.AbstractStandby.{AbstractScan, AbstractStandby, IsLegal, Step, World, life_begins, log_origin, position_of}
+
+-- an open scan of the node: its snapshot was taken and its blocks were counted at the opening, when the running
+-- transactions were known; each block that it was given had another one behind it
+pub record StandsForScan (w : World) (life : List Rec) (one : NodeScan) (scan : AbstractScan) : Type 0 where
+  pub id : one.id ≡ scan.id
+  pub table : one.scan.table ≡ scan.table
+  pub described : table_of (locators w.tables) (file_of w.tables scan.table) ≡ Some scan.table
+  pub later : List Rec
+  pub opened : life ≡ later ++ scan.opened
+  pub ready : (state_along scan.opened).known.mode ≡ Ready
+  pub snapshot : one.scan.snapshot ≡ take_of (state_along scan.opened).known
+  pub blocks : one.scan.blocks ≡ block_count (log_origin w) (file_of w.tables scan.table) scan.opened
+  pub given : one.scan.given ≡ scan.given
+  pub inside : (scan.given ≡ 0) ⊎ (scan.given < one.scan.blocks)
+
+-- one for one
+abbrev pub StandForScans : World → List Rec → List NodeScan → List AbstractScan → Type 0
+StandForScans w life [] [] = Unit {0}
+StandForScans w life [] (scan ∷ scans) = ⊥
+StandForScans w life (one ∷ others) [] = ⊥
+StandForScans w life (one ∷ others) (scan ∷ scans) = StandsForScan w life one scan × StandForScans w life others scans
+
+-- a node whose life began here: the log that it replayed stands, its blocks are those that redo of the log leaves, and its
+-- state of transactions is that along the log
+pub record Represents (w : World) (start : ℕ) (node : Standby) (s : AbstractStandby) : Type 0 where
+  pub begins : s.start ≡ start
+  pub stands : Stands w.told (described_in w.tables) start s.life
+  pub tables : node.tables ≡ w.tables
+  pub told : told_to node w.told.byte ≡ w.told
+  pub at : node.at.0 ≡ position_of s
+  pub prev : node.prev ≡ link_after s.life
+  pub min : node.min.0 ≡ s.min
+  pub awaited : node.awaited ≡ s.awaited
+  pub blocks : view_after (log_origin w) (locators w.tables) s.life ≡ Ok node.blocks
+  pub transactions : node.transactions ≡ state_along s.life
+  pub scans : StandForScans w s.life node.scans s.scans
+  pub next_id : node.next_id ≡ s.next_id
+
+-- over a legal log of bytes, in segments that have a size, with tables of a description that is read, each step of a node is
+-- one of the abstract standby that it stands for, with the same reply
+abbrev pub NodeSimulates : Type 0
+NodeSimulates =
+    (w : World) (start : ℕ) (text : List ℕ) → 0 < w.told.segsize → TellsBytes w.told → schema.Answers text (Ok w.tables) → IsLegal w start
+    → Simulates (Represents w start) (NodeStep w.told.byte) (Step w)
+
+-- what a node with these tables lives in whose log begins at this origin, where it is told by these bytes
+abbrev pub world_at : Description → Origin → (ℕ → Option ℕ) → (ℕ → ℕ) → World
+world_at tables origin byte top = record {
+  tables = tables;
+  told = record { byte = byte; owner = λ at. 1; system = origin.system; segsize = origin.segsize };
+  top = top;
+}
+
+-- a node whose life begins, with no blocks, stands for an abstract standby whose life begins
+abbrev pub BeginsSo : Type 0
+BeginsSo =
+    (tables : Description) (origin : Origin) (byte : ℕ → Option ℕ) (top : ℕ → ℕ)
+    → Represents (world_at tables origin byte top) origin.redo.0 (at_origin tables origin (λ table block. absent)) (life_begins origin.redo)

@@ -1,0 +1,4 @@
+pub mod Origin
+pub mod Starts
+pub mod Leaves
+pub mod Laws

@@ -1,4 +1,0 @@
-pub mod Laws
-pub mod Run
-pub mod Scan
-pub mod Tables

@@ -1,0 +1,35 @@
+use Rattle.std.proofs.Common.{◌<◌, length, slice_index_or, sym}
+use Rattle.std.proofs.lemmas.List.Elements.{All-get_or}
+use Rattle.page_store.specs.Content.{content}
+use Rattle.page_store.specs.Seen.{view_of}
+use Rattle.xact_redo.specs.State.{transactions}
+use Rattle.standby_core.specs.declared.scans.NodeScan.{NodeScan}
+use Rattle.standby_core.specs.Scans.{is_more}
+use Rattle.standby_core.proofs.Paged.{gives, gives_none, described_onward, kept_described, stands_there}
+use Rattle.standby_core.proofs.Places.{none_found}
+use Rattle.standby_core.proofs.scans.Scans.next_page.Goals as goal
+
+pub returns-in_default-clause-page : goal.returns-in_default-clause-page
+returns-in_default-clause-page c =
+    let scans = c.args.self.now.open.items in
+    λ node reads. gives_none c.args.id scans (none_found c.args.id 0 scans (sym c.in_default.ensures.first)) node reads.open_scans
+
+pub returns-clause-page : goal.returns-clause-page
+unfolding transactions
+returns-clause-page c =
+    let scans = c.args.self.now.open.items in
+    let stands = stands_there c.args.id scans c.in-Some.place c.in-Some.ensures.first in
+    λ node reads. gives c.args.id c.in-Some.place scans c.index_mut.result.now stands c.index_mut.ensures.value
+    node c.args.tables.now (view_of (content c.args.pool.now)) (transactions c.args.state.now) reads
+    c.table-table.result c.in_ok-page.page.rows c.in_ok-page.page.end c.next_page.new.self c.keep.new.self.open.items
+    c.table-table.ensures c.in_ok-page.ensures.page c.in_ok-page.ensures.onward c.keep.ensures.open
+
+pub returns-clause-still : goal.returns-clause-still
+returns-clause-still c =
+    let scans = c.args.self.now.open.items in
+    let one = c.index_mut.result.now in
+    let tables = c.args.tables.now in
+    let after : NodeScan = record { id = one.id; scan = c.next_page.new.self } in
+    let was = All-get_or (λ (other : NodeScan). other.scan.table < length tables.tables) scans c.in-Some.place one c.in-Some.ensures.inside c.requires.described in
+    let has = described_onward (length tables.tables) one (slice_index_or scans c.in-Some.place one) c.next_page.new.self c.index_mut.ensures.value c.in_ok-page.ensures.onward was in
+    kept_described tables (is_more c.in_ok-page.page.end) scans c.keep.new.self.open.items c.in-Some.place after c.keep.ensures.open c.requires.described has

@@ -1,0 +1,10 @@
+mod Appending
+mod Talking
+mod Given
+mod Holding
+mod Lines
+mod Steps
+mod Replies
+mod Asking
+mod Paging
+mod Scanning

@@ -1,0 +1,7 @@
+use Rattle.worked_premise.proofs.Legal.{session_is_answered}
+use Rattle.worked_premise.proofs.session_is_answered.Goals as goal
+
+pub returns : goal.returns
+returns c =
+    session_is_answered c.worked_archive.ensures c.schema_is_read.ensures c.files_are_legal.ensures c.node_simulates.ensures
+    c.life_begins_so.ensures
