@@ -2,7 +2,7 @@ use pg_types::Lsn;
 use std::fmt;
 
 /// Shows bytes, two lower-case hex digits each, and none as `-`.
-#[derive(Debug, Drop)]
+#[derive(Drop)]
 pub struct ShowHex<'a>(pub &'a [u8]);
 
 impl<'a> fmt::Display for ShowHex<'a> {
@@ -18,7 +18,7 @@ impl<'a> fmt::Display for ShowHex<'a> {
 }
 
 /// Shows a position as `16/B374D848`.
-#[derive(Clone, Copy, Debug)]
+#[derive(Clone, Copy)]
 pub struct ShowPosition(pub Lsn);
 
 impl fmt::Display for ShowPosition {

@@ -4,7 +4,7 @@ use std::io;
 use thiserror::Error;
 
 /// What is wrong with a line of cases, or with its answer.
-#[derive(Clone, Copy, Debug, PartialEq, Eq, Error)]
+#[derive(Clone, Copy, Debug, Error)]
 pub enum Wrong {
     #[error("no line of this program's cases")]
     Line,
@@ -51,7 +51,7 @@ impl From<io::Error> for Wrong {
 }
 
 /// The error that ends a program of cases: the number of the line, from 1, and what is wrong with it.
-#[derive(Clone, Copy, Debug, PartialEq, Eq, Error)]
+#[derive(Clone, Copy, Debug, Error)]
 #[error("line {line}: {wrong}")]
 pub struct BadLine {
     pub line: usize,

@@ -5,14 +5,14 @@ pub type Page = [u8; 8192];
 
 /// A full-page image: the bytes of a block without its hole, which is zeros and stands at `hole_at`
 /// (`RestoreBlockImage`, xlogreader.c).
-#[derive(Clone, Copy, Debug)]
+#[derive(Clone, Copy)]
 pub struct PageImage<'a> {
     pub hole_at: u16,
     pub bytes: &'a [u8],
 }
 
 /// What stands at a line of a page (`ItemIdData`, itemid.h). A redirect names another line.
-#[derive(Clone, Copy, Debug)]
+#[derive(Clone, Copy)]
 pub enum Item<'a> {
     Unused,
     Normal(&'a [u8]),
@@ -21,7 +21,7 @@ pub enum Item<'a> {
 }
 
 /// What a line may become without a tuple.
-#[derive(Clone, Copy, Debug, PartialEq, Eq)]
+#[derive(Clone, Copy)]
 pub enum LineState {
     Unused,
     Redirect(u16),
@@ -29,7 +29,7 @@ pub enum LineState {
 }
 
 /// Why a change of a page is refused. The page is then as before.
-#[derive(Clone, Copy, Debug, PartialEq, Eq, Error)]
+#[derive(Clone, Copy, Debug, Error)]
 pub enum PageError {
     /// The page has no room for the tuple, however its tuples stand.
     #[error("the page is full")]

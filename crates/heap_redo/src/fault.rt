@@ -10,7 +10,7 @@ use thiserror::Error;
 use wal_bodies::RecBlock;
 
 /// Why a record is not applied. The place is the block, and the line where there is one, else line 0.
-#[derive(Clone, Copy, Debug, PartialEq, Eq, Error)]
+#[derive(Clone, Copy, Debug, Error)]
 pub enum RedoFault {
     /// The table does not have the block.
     #[error("the block is missing")]
@@ -29,7 +29,7 @@ pub enum RedoFault {
 }
 
 /// Why the change of one block is refused.
-#[derive(Clone, Copy, Debug, PartialEq, Eq)]
+#[derive(Clone, Copy)]
 pub enum BlockFault {
     NoPage,
     NoTuple(u16),

@@ -5,7 +5,7 @@ use std::alloc::Global;
 
 /// The types of column that are described. `Raw4` and `Raw8` are values of that many bytes which are
 /// shown as they are stored.
-#[derive(Clone, Copy, Debug, PartialEq, Eq)]
+#[derive(Clone, Copy)]
 pub enum Kind {
     Bool,
     Int2,
@@ -21,7 +21,7 @@ pub enum Kind {
 
 /// One value of a row. `Int` has the integers and `Oid`; `Bytes` has the bytes of a text or a bytea
 /// without their header, and those of a uuid or a raw value as they are stored.
-#[derive(Debug, Drop)]
+#[derive(Drop)]
 pub enum Cell {
     Null,
     Bool(bool),
@@ -45,7 +45,7 @@ impl Cell {
 
 /// A described column: its type, and the value that it has in tuples that were written before the
 /// column was added; `None` is null.
-#[derive(Debug, Drop)]
+#[derive(Drop)]
 pub struct Column {
     pub kind: Kind,
     pub missing: Option<Cell>,

@@ -7,7 +7,7 @@ use pg_types::{Place, Xid, u16_at, u32_at};
 use std::marker::Model;
 
 /// The deleter that a tuple shows, apart from marks. An xmax that only locks is no deleter.
-#[derive(Clone, Copy, Debug, PartialEq, Eq)]
+#[derive(Clone, Copy)]
 pub enum MaxOf {
     None,
     Xid(Xid),

@@ -6,7 +6,7 @@ use pg_types::{Bytes, NoMemory};
 use std::alloc::Global;
 
 /// One value of a row as it stands in its tuple. Its variants are those of `Cell`.
-#[derive(Clone, Copy, Debug)]
+#[derive(Clone, Copy)]
 pub enum Value<'a> {
     Null,
     Bool(bool),

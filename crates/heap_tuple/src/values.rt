@@ -14,7 +14,7 @@ use std::alloc::Global;
 use thiserror::Error;
 
 /// Why a tuple's row is not given. Columns are numbered from 0.
-#[derive(Clone, Copy, Debug, PartialEq, Eq, Error)]
+#[derive(Clone, Copy, Debug, Error)]
 pub enum RowFault {
     /// The column's value is stored outside or compressed.
     #[error("a value is stored outside the tuple or compressed")]
@@ -39,7 +39,7 @@ impl From<NoMemory> for RowFault {
 }
 
 /// Why one value is refused.
-#[derive(Clone, Copy, Debug, PartialEq, Eq)]
+#[derive(Clone, Copy)]
 pub enum ValueRefusal {
     Toasted,
     Bad,

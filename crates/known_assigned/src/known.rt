@@ -16,7 +16,7 @@ use std::marker::Model;
 /// more ids fit without taking memory (`spare`).
 ///
 /// Ids are at most 2^63 + 2^32, so that one more always fits.
-#[derive(Debug, Drop)]
+#[derive(Drop)]
 pub struct KnownAssigned {
     running: RunningSet,
     latest: u64,

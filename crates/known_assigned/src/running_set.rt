@@ -9,7 +9,7 @@ use std::alloc::Global;
 use std::marker::Model;
 
 /// A place of the set: an id, and whether it has not ended.
-#[derive(Clone, Copy, Debug)]
+#[derive(Clone, Copy)]
 pub(crate) struct Slot {
     pub(crate) xid: u64,
     pub(crate) live: bool,
@@ -19,7 +19,7 @@ pub(crate) struct Slot {
 /// an id that ends is found by halving and only marked, and the marked ones at the low end are passed
 /// over once. Contracts see the ids in rising order, how many more places there are, and how many are
 /// taken, by an id or a mark.
-#[derive(Debug, Drop)]
+#[derive(Drop)]
 pub(crate) struct RunningSet {
     slots: Vec<Slot>,
     /// The place of the least id that has not ended.

@@ -1,7 +1,7 @@
 use pg_types::Xid;
 
 /// How far a standby is on the way to snapshots (`HotStandbyState`, xlogutils.h).
-#[derive(Clone, Copy, Debug, PartialEq, Eq)]
+#[derive(Clone, Copy)]
 pub enum State {
     /// No running record and no shutdown checkpoint was replayed.
     Initialized,
@@ -13,7 +13,7 @@ pub enum State {
 }
 
 /// The fixed part of a running record (`xl_running_xacts`, standbydefs.h).
-#[derive(Clone, Copy, Debug, PartialEq, Eq)]
+#[derive(Clone, Copy)]
 pub struct RunningHead {
     /// Whether subtransactions were left out (`subxid_overflow`).
     pub overflow: bool,

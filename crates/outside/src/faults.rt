@@ -10,7 +10,7 @@ const ROOM: u64 = 0x4000_0000_0000_0000;
 const LAST_COUNT: u64 = 0x8000_0000_0000_0000;
 
 /// A count of faults. It goes from 2^62 - 1 to 2^63, its last value, and stays there.
-#[derive(Clone, Copy, Debug)]
+#[derive(Clone, Copy)]
 pub struct FaultCount {
     /// The faults so far, up to 2^62.
     pub faults: u64,
@@ -45,7 +45,7 @@ impl FaultCount {
 }
 
 /// Which calls of an object in memory are to fail, by their numbers from 1 on, and the faults so far.
-#[derive(Debug, Drop)]
+#[derive(Drop)]
 pub struct FaultPlan {
     pub fails: Vec<u64>,
     pub calls: u64,

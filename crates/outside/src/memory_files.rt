@@ -15,7 +15,7 @@ use std::alloc::Global;
 
 /// Files in memory that never fail: an archive, or the folder of a base backup. Contracts see their
 /// `entries`: the name and the contents of each file, the newest first.
-#[derive(Debug, Drop)]
+#[derive(Drop)]
 pub struct SteadyFiles {
     files: Vec<StoredFile>,
 }
@@ -119,7 +119,7 @@ pub(crate) fn read_at(contents: &[u8], at: u64, buf: &mut [u8]) -> usize
 }
 
 /// Files in memory of which the listed calls of `fetch` fail.
-#[derive(Debug, Drop)]
+#[derive(Drop)]
 pub struct MemoryFiles {
     pub files: SteadyFiles,
     pub plan: FaultPlan,

@@ -16,7 +16,7 @@ const LIMIT: u64 = 0x8000_0000_0000_0000;
 
 /// A log of timeline 1 in memory that never fails: one text that stands from a position on. Contracts
 /// see it as that position and the text.
-#[derive(Debug, Drop)]
+#[derive(Drop)]
 pub struct SteadyLog {
     start: u64,
     text: Bytes,
@@ -81,7 +81,7 @@ impl LogBytes for SteadyLog {
 
 /// A log in memory in which the listed calls of `bytes_at` fail. Its answers have at most `most` bytes,
 /// but where `most` is 0 one, and end at the first listed place that they come to.
-#[derive(Debug, Drop)]
+#[derive(Drop)]
 pub struct MemoryLog {
     pub log: SteadyLog,
     pub most: usize,

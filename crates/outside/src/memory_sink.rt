@@ -12,7 +12,7 @@ use std::marker::Model;
 
 /// A sink in memory that never fails. Contracts see all bytes written so far, and how many writes found no
 /// memory.
-#[derive(Debug, Drop)]
+#[derive(Drop)]
 pub struct SteadySink {
     bytes: Bytes,
     short: FaultCount,
@@ -76,7 +76,7 @@ impl Sink for SteadySink {
 }
 
 /// A sink in memory in which the listed calls of `write` fail, each after the first half of its bytes.
-#[derive(Debug, Drop)]
+#[derive(Drop)]
 pub struct MemorySink {
     pub written: SteadySink,
     pub plan: FaultPlan,

@@ -12,7 +12,7 @@ use pg_types::{Bytes, Fail, NoMemory};
 use std::alloc::Global;
 
 /// A source in memory that never fails: a text, of which so many bytes were read.
-#[derive(Debug, Drop)]
+#[derive(Drop)]
 pub struct SteadySource {
     pub text: Bytes,
     pub read: usize,
@@ -78,7 +78,7 @@ impl Source for SteadySource {
 }
 
 /// A source in memory of which the listed calls of `read` fail. A call gives at most so many bytes, and at least one.
-#[derive(Debug, Drop)]
+#[derive(Drop)]
 pub struct MemorySource {
     pub source: SteadySource,
     pub most: usize,

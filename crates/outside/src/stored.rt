@@ -3,7 +3,7 @@ ghost use Rattle.outside.specs.Archive.{AreBytes};
 use pg_types::Bytes;
 
 /// A file of an archive in memory.
-#[derive(Debug, Drop)]
+#[derive(Drop)]
 pub(crate) struct StoredFile {
     pub(crate) name: Bytes,
     pub(crate) contents: Bytes,

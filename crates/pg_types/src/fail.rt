@@ -2,7 +2,7 @@ use std::alloc::{AllocError, AllocFailed};
 use thiserror::Error;
 
 /// How a call of the outside fails: the object counted a fault of its own, or memory ran out.
-#[derive(Clone, Copy, Debug, PartialEq, Eq, Error)]
+#[derive(Clone, Copy, Debug, Error)]
 pub enum Fail {
     #[error("the outside failed")]
     Failed,
@@ -11,7 +11,7 @@ pub enum Fail {
 }
 
 /// The error of a call whose only refusal is want of memory. After it all is as before the call.
-#[derive(Clone, Copy, Debug, PartialEq, Eq, Error)]
+#[derive(Clone, Copy, Debug, Error)]
 #[error("out of memory")]
 pub struct NoMemory;
 

@@ -35,7 +35,7 @@ pub fn segment_name(tli: Tli, segment: u64, segsize: u32, out: &mut Vec<u8>) -> 
 }
 
 /// The name of a segment's file. It takes no memory. Contracts see it as its bytes.
-#[derive(Debug, Drop)]
+#[derive(Drop)]
 pub struct SegmentName {
     text: [u8; 24],
 }

@@ -7,7 +7,7 @@ use pg_types::{Xid, u16_at};
 use std::marker::Model;
 
 /// A part of a record's bytes. Contracts see it as the list of its bytes.
-#[derive(Debug, Drop)]
+#[derive(Drop)]
 pub struct RecBytes<'a> {
     bytes: &'a [u8],
 }
@@ -36,7 +36,7 @@ impl<'a> RecBytes<'a> {
 
 /// Transaction ids that stand in a record, read where they stand: an iterator. Contracts see it as the
 /// list of those that are left.
-#[derive(Debug, Drop)]
+#[derive(Drop)]
 pub struct Xids<'a> {
     text: &'a [u8],
     /// Where the next one stands.
@@ -113,7 +113,7 @@ impl<'a> Iterator for Xids<'a> {
 
 /// Lines of a page, which are numbered from 1, read where they stand in a record, or those in a row: an
 /// iterator. Contracts see it as the list of those that are left.
-#[derive(Debug, Drop)]
+#[derive(Drop)]
 pub struct Lines<'a> {
     /// The lines stand in the text. Else they are in a row.
     is_listed: bool,

@@ -14,7 +14,7 @@ use table_schema::{SchemaFault, Tables, read_schema};
 const ROOM: usize = 1048577;
 
 /// What the file of a description says.
-#[derive(Debug, Drop)]
+#[derive(Drop)]
 pub enum SchemaFile {
     /// There is no such file.
     Absent,

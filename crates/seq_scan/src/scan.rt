@@ -15,7 +15,7 @@ use table_schema::Tables;
 use tuple_visibility::Statuses;
 
 /// What is damaged: there is no such page, or a line shows a multixact that is not known.
-#[derive(Clone, Copy, Debug, PartialEq, Eq)]
+#[derive(Clone, Copy)]
 pub enum Damage {
     Page,
     Multi(u32),
@@ -24,7 +24,7 @@ pub enum Damage {
 /// How the rows of a page of a scan end: with its last line, and there are more pages or none; before the row at a
 /// place, of which the value of a column is stored elsewhere or compressed, or is not as described; or before a place
 /// where something is damaged. Columns are numbered from 0; line 0 stands for the page.
-#[derive(Clone, Copy, Debug, PartialEq, Eq)]
+#[derive(Clone, Copy)]
 pub enum PageEnd {
     Rows { more: bool },
     Toasted { place: Place, column: u16 },
@@ -33,7 +33,7 @@ pub enum PageEnd {
 }
 
 /// A page of a scan: its rows, in the order of their lines, up to the first line that is refused, and how they end.
-#[derive(Debug, Drop)]
+#[derive(Drop)]
 pub struct ScanPage {
     pub rows: Rows,
     pub end: PageEnd,

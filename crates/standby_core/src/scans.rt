@@ -16,7 +16,7 @@ const MOST: usize = 64;
 const LAST_ID: u64 = 1 << 63;
 
 /// What an opening answers.
-#[derive(Clone, Copy, Debug, PartialEq, Eq)]
+#[derive(Clone, Copy)]
 pub enum Opened {
     /// A scan with this id is open, over the rows that were committed at the position.
     Scan { id: u64, at: Lsn },
@@ -29,7 +29,7 @@ pub enum Opened {
 }
 
 /// What the next page of a scan is: the number of its table, its rows and how they end.
-#[derive(Debug, Drop)]
+#[derive(Drop)]
 pub struct NodePage {
     pub table: u16,
     pub rows: Rows,
@@ -37,7 +37,7 @@ pub struct NodePage {
 }
 
 /// How a page ends whose rows were printed, with the number of its table.
-#[derive(Clone, Copy, Debug, PartialEq, Eq)]
+#[derive(Clone, Copy)]
 pub struct PrintedPage {
     pub table: u16,
     pub end: PageEnd,

@@ -5,7 +5,7 @@ use wal_bodies::What;
 use wal_reader::EndWhy;
 
 /// Where a standby's log begins, with neither rows nor statuses.
-#[derive(Clone, Copy, Debug, PartialEq, Eq)]
+#[derive(Clone, Copy)]
 pub struct Origin {
     /// The system identifier that the pages of the log bear.
     pub system: u64,
@@ -16,7 +16,7 @@ pub struct Origin {
 }
 
 /// What came of replaying one record.
-#[derive(Clone, Copy, Debug, PartialEq, Eq)]
+#[derive(Clone, Copy)]
 pub enum Replayed {
     /// The record that starts there was applied, and the node stands at its end.
     Applied { start: Lsn, at: Lsn },
@@ -27,7 +27,7 @@ pub enum Replayed {
 }
 
 /// Why a record is refused.
-#[derive(Clone, Copy, Debug, PartialEq, Eq)]
+#[derive(Clone, Copy)]
 pub enum Refusal {
     /// It has a compressed page image.
     Compressed,
@@ -47,7 +47,7 @@ pub enum Refusal {
 }
 
 /// Why a call of the node gives no answer.
-#[derive(Clone, Copy, Debug, PartialEq, Eq, Error)]
+#[derive(Clone, Copy, Debug, Error)]
 pub enum NodeFault {
     #[error("the archive failed")]
     Archive,
@@ -56,7 +56,7 @@ pub enum NodeFault {
 }
 
 /// Where the node stands.
-#[derive(Clone, Copy, Debug, PartialEq, Eq)]
+#[derive(Clone, Copy)]
 pub struct NodeStatus {
     /// The timeline that is replayed.
     pub tli: Tli,
@@ -84,7 +84,7 @@ impl From<NoMemory> for NodeFault {
 }
 
 /// Why a record that was read is not applied.
-#[derive(Clone, Copy, Debug)]
+#[derive(Clone, Copy)]
 pub(crate) enum Stopped {
     Refused(Refusal),
     Memory,

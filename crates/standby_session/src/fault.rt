@@ -3,7 +3,7 @@ use standby_core::NodeFault;
 use thiserror::Error;
 
 /// What ends a session before the end of its source.
-#[derive(Clone, Copy, Debug, PartialEq, Eq, Error)]
+#[derive(Clone, Copy, Debug, Error)]
 pub enum SessionFault {
     #[error("the archive failed")]
     Archive,

@@ -14,7 +14,7 @@ pub use taken::take;
 /// The transactions that count as in progress for a scan: none below `xmin`, all from `xmax` on, and
 /// between them those that were `running`, in rising order. `overflowed` says that ids of
 /// subtransactions may be missing from `running` (`SnapshotData`, snapshot.h).
-#[derive(Debug, Drop)]
+#[derive(Drop)]
 pub struct Snapshot {
     pub xmin: Xid,
     pub xmax: Xid,

@@ -12,7 +12,7 @@ use std::collections::VecDeque;
 use std::marker::Model;
 
 /// A subtransaction and its parent, which is always a lower id.
-#[derive(Clone, Copy, Debug, Drop)]
+#[derive(Clone, Copy, Drop)]
 pub struct Pair {
     pub sub: u64,
     pub parent: u64,

@@ -12,7 +12,7 @@ use toml::Value;
 use toml::value::{Array, Table};
 
 /// The levels of a description.
-#[derive(Clone, Copy, Debug)]
+#[derive(Clone, Copy)]
 pub enum Level {
     Top,
     OfTable,

@@ -8,7 +8,7 @@ use std::alloc::Global;
 use std::marker::Model;
 
 /// The columns of a table and their names, as many of each. Contracts see both lists.
-#[derive(Debug, Drop)]
+#[derive(Drop)]
 pub struct ColumnsRead {
     names: Vec<Name>,
     columns: Vec<Column>,
@@ -35,7 +35,7 @@ impl ColumnsRead {
 }
 
 /// A described table.
-#[derive(Debug, Drop)]
+#[derive(Drop)]
 pub struct Described {
     name: Name,
     oid: u32,
@@ -101,7 +101,7 @@ impl Described {
 
 /// The tables that a description names, at most 256, numbered from 0 in the order of its text. Contracts
 /// see the description as a value.
-#[derive(Debug, Drop)]
+#[derive(Drop)]
 pub struct Tables {
     database: u32,
     tables: Vec<Described>,

@@ -13,7 +13,7 @@ use wal_record::{BlockView, ImageView, RecordView};
 
 /// The blocks that a record changes, by rising id, each of which is looked up in the record when it comes:
 /// an iterator. Contracts see it as the list of those that are left.
-#[derive(Debug, Drop)]
+#[derive(Drop)]
 pub struct RecBlocks<'a> {
     view: Option<&'a RecordView<'a>>,
     /// The least id of those that are left.

@@ -10,7 +10,7 @@ use std::marker::Model;
 
 /// Tuples that a record puts into a block, read where they stand: an iterator. Contracts see it as the
 /// list of those that are left.
-#[derive(Debug, Drop)]
+#[derive(Drop)]
 pub struct NewTuples<'a> {
     /// They are a multi-insert's. Else one tuple is all of the bytes.
     is_listed: bool,

@@ -6,7 +6,7 @@ use thiserror::Error;
 use wal_record::RecordHead;
 
 /// A record in typed form, lent from the record's bytes.
-#[derive(Debug, Drop)]
+#[derive(Drop)]
 pub struct Rec<'a> {
     /// The record's header. Its info tells apart the kinds that share a variant of `RecKind`.
     pub head: RecordHead,
@@ -20,7 +20,7 @@ pub struct Rec<'a> {
 }
 
 /// What a record's main data says. The fields of a variant stand in the order of the record's own.
-#[derive(Debug, Drop)]
+#[derive(Drop)]
 pub enum RecKind<'a> {
     /// A checkpoint (`CheckPoint`, pg_control.h): at shutdown (info 0x00) or online (0x10).
     Checkpoint {
@@ -141,7 +141,7 @@ pub enum RecKind<'a> {
 }
 
 /// A block that redo changes.
-#[derive(Debug, Drop)]
+#[derive(Drop)]
 pub struct RecBlock<'a> {
     /// The block's id in the record.
     pub id: u8,
@@ -156,7 +156,7 @@ pub struct RecBlock<'a> {
 }
 
 /// A page image that a record holds of a block.
-#[derive(Debug, Drop)]
+#[derive(Drop)]
 pub struct RecImage<'a> {
     /// Replay restores the page from the image.
     pub apply: bool,
@@ -166,7 +166,7 @@ pub struct RecImage<'a> {
 }
 
 /// A tuple by what a record holds of it (`xl_heap_header`, heapam_xlog.h).
-#[derive(Debug, Drop)]
+#[derive(Drop)]
 pub struct NewTuple<'a> {
     /// The infomask2: number of columns, and flags.
     pub mask2: u16,
@@ -183,7 +183,7 @@ pub struct NewTuple<'a> {
 }
 
 /// Why a record is not applied.
-#[derive(Clone, Copy, Debug, PartialEq, Eq, Error)]
+#[derive(Clone, Copy, Debug, Error)]
 pub enum BodyFault {
     /// Main data or block data is shorter than the kind needs, a count is below 0, or block 0 is missing.
     #[error("the record's body is too short")]
@@ -193,7 +193,7 @@ pub enum BodyFault {
 }
 
 /// What this standby does not support.
-#[derive(Clone, Copy, Debug, PartialEq, Eq)]
+#[derive(Clone, Copy, Debug)]
 pub enum What {
     /// Two-phase commit.
     Prepared,

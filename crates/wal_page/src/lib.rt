@@ -12,7 +12,7 @@ use pg_types::{Lsn, Tli, is_segment_size, u16_at, u32_at, u64_at};
 use thiserror::Error;
 
 /// What a reader knows of a page before it reads it.
-#[derive(Clone, Copy, Debug, PartialEq, Eq)]
+#[derive(Clone, Copy)]
 pub struct Expect {
     /// The system identifier and the segment size in bytes; `None` only before a base is imported.
     pub known: Option<(u64, u32)>,
@@ -21,7 +21,7 @@ pub struct Expect {
 }
 
 /// The header of a page.
-#[derive(Clone, Copy, Debug, PartialEq, Eq)]
+#[derive(Clone, Copy)]
 pub struct PageHead {
     /// The info bits: 1 the page begins inside a record, 2 long header, 4 backup blocks may be removed,
     /// 8 the page begins where an earlier record was given up.
@@ -37,7 +37,7 @@ pub struct PageHead {
 }
 
 /// Why bytes are no header of the page that is expected.
-#[derive(Clone, Copy, Debug, PartialEq, Eq, Error)]
+#[derive(Clone, Copy, Debug, Error)]
 pub enum PageFault {
     #[error("too few bytes")]
     Short,

@@ -16,7 +16,7 @@ use wal_record::{PrevRule, RecordShape, RecordView, lend};
 
 /// Reads the records of a log one after the other. It keeps up to 64 KiB of the log between two
 /// calls, which the next call takes for what the log has there.
-#[derive(Debug, Drop)]
+#[derive(Drop)]
 pub struct Reader {
     at: Lsn,
     prev: PrevRule,

@@ -17,7 +17,7 @@ use std::marker::Model;
 use wal_page::{Expect, PageFault, PageHead, read_page_header};
 
 /// What the texts of records are gathered from.
-#[derive(Debug, Drop)]
+#[derive(Drop)]
 pub struct Gatherer {
     system: u64,
     segsize: u32,

@@ -5,7 +5,7 @@ use thiserror::Error;
 use wal_record::RecordShape;
 
 /// The rule that is the log's end (`ReadRecord`, xlogrecovery.c), in the order in which they are tried.
-#[derive(Clone, Copy, Debug, PartialEq, Eq)]
+#[derive(Clone, Copy, PartialEq, Eq)]
 pub enum EndWhy {
     /// The bytes that are needed next are not told.
     Missing,
@@ -26,7 +26,7 @@ pub enum EndWhy {
 }
 
 /// Why no record is read at a position: the log ends there, or its record is refused.
-#[derive(Clone, Copy, Debug, PartialEq, Eq)]
+#[derive(Clone, Copy)]
 pub enum NoRecord {
     End(EndWhy),
     /// A page image is compressed.
@@ -36,7 +36,7 @@ pub enum NoRecord {
 }
 
 /// What stands at the reader's position.
-#[derive(Clone, Copy, Debug, PartialEq, Eq)]
+#[derive(Clone, Copy)]
 pub enum Next {
     /// A record: the position of its first byte, and the one where the next record would stand.
     Record { start: Lsn, end: Lsn },
@@ -45,7 +45,7 @@ pub enum Next {
 }
 
 /// Why the reader gives no answer. It stands where it stood.
-#[derive(Clone, Copy, Debug, PartialEq, Eq, Error)]
+#[derive(Clone, Copy, Debug, Error)]
 pub enum ReadFault {
     #[error("the log failed")]
     Log,
@@ -58,7 +58,7 @@ pub enum ReadFault {
 }
 
 /// Why a step of the reader reads no record.
-#[derive(Clone, Copy, Debug, PartialEq, Eq)]
+#[derive(Clone, Copy)]
 pub enum Trouble {
     /// None is read at the position.
     Stops(NoRecord),
@@ -86,7 +86,7 @@ impl From<Fail> for Trouble {
 
 /// A record that was read: where it begins, where the next one would stand, its length where it stands
 /// whole among the bytes that are kept, and where its parts stand in it.
-#[derive(Clone, Copy, Debug)]
+#[derive(Clone, Copy)]
 pub struct Taken {
     pub start: u64,
     pub end: u64,

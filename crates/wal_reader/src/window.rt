@@ -19,7 +19,7 @@ const STRETCH: usize = 65536;
 const LIMIT: u64 = 1 << 63;
 
 /// Bytes of one stretch that were read, from some position on.
-#[derive(Debug, Drop)]
+#[derive(Drop)]
 pub struct Window {
     from: u64,
     have: usize,

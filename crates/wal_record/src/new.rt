@@ -1,7 +1,7 @@
 use pg_types::{Bytes, List, Locator, Lsn, Xid};
 
 /// A record that is to be written. Its length, its CRC and the flags of its blocks are computed.
-#[derive(Debug, Drop)]
+#[derive(Drop)]
 pub struct NewRecord {
     pub xid: Xid,
     /// Where the record before begins.
@@ -15,7 +15,7 @@ pub struct NewRecord {
 }
 
 /// A block that a new record refers to.
-#[derive(Debug, Drop)]
+#[derive(Drop)]
 pub struct NewBlock {
     /// Its id in the record, 0 to 32.
     pub id: u8,
@@ -31,7 +31,7 @@ pub struct NewBlock {
 }
 
 /// A page image, not compressed: all 8192 bytes, or those around a hole of zeros.
-#[derive(Debug, Drop)]
+#[derive(Drop)]
 pub struct NewImage {
     /// Replay restores the page from the image.
     pub apply: bool,

@@ -6,7 +6,7 @@ use crate::fields::{byte, long, short};
 use pg_types::Locator;
 
 /// The header of one part of a record.
-#[derive(Clone, Copy, Debug)]
+#[derive(Clone, Copy)]
 pub(crate) enum Part {
     Block(BlockHeader),
     /// The replication origin.
@@ -20,7 +20,7 @@ pub(crate) enum Part {
 }
 
 /// The header of a block (`XLogRecordBlockHeader`).
-#[derive(Clone, Copy, Debug)]
+#[derive(Clone, Copy)]
 pub(crate) struct BlockHeader {
     pub(crate) id: u8,
     pub(crate) flags: u8,
@@ -32,7 +32,7 @@ pub(crate) struct BlockHeader {
 }
 
 /// The header of an image (`XLogRecordBlockImageHeader`).
-#[derive(Clone, Copy, Debug)]
+#[derive(Clone, Copy)]
 pub(crate) struct ImageHeader {
     pub(crate) length: u16,
     pub(crate) hole_at: u16,
@@ -40,7 +40,7 @@ pub(crate) struct ImageHeader {
 }
 
 /// What the part headers so far say about those to come.
-#[derive(Clone, Copy, Debug)]
+#[derive(Clone, Copy)]
 pub(crate) struct HeadersRead {
     /// The relation of the block before.
     pub(crate) locator: Option<Locator>,

@@ -2,7 +2,7 @@ use pg_types::{Locator, Lsn, Xid};
 use thiserror::Error;
 
 /// The fields of a record's header (`XLogRecord`, xlogrecord.h).
-#[derive(Clone, Copy, Debug, PartialEq, Eq)]
+#[derive(Clone, Copy)]
 pub struct RecordHead {
     /// The record's length in bytes, with its header.
     pub total: u32,
@@ -16,7 +16,7 @@ pub struct RecordHead {
 }
 
 /// What a record's link to the record before has to be (`ValidXLogRecordHeader`, xlogreader.c).
-#[derive(Clone, Copy, Debug, PartialEq, Eq)]
+#[derive(Clone, Copy)]
 pub enum PrevRule {
     /// The record before begins here.
     Is(Lsn),
@@ -25,7 +25,7 @@ pub enum PrevRule {
 }
 
 /// Why bytes are no record that can be replayed. Of several faults the first in this order is meant.
-#[derive(Clone, Copy, Debug, PartialEq, Eq, Error)]
+#[derive(Clone, Copy, Debug, Error)]
 pub enum RecordFault {
     #[error("the length is 0")]
     Zero,
@@ -46,7 +46,7 @@ pub enum RecordFault {
 }
 
 /// A block that a record refers to, lent from the record's bytes.
-#[derive(Clone, Copy, Debug)]
+#[derive(Clone, Copy)]
 pub struct BlockView<'a> {
     pub locator: Locator,
     /// The relation's fork, 0 for the main one.
@@ -60,7 +60,7 @@ pub struct BlockView<'a> {
 }
 
 /// A page image that is not compressed.
-#[derive(Clone, Copy, Debug)]
+#[derive(Clone, Copy)]
 pub struct ImageView<'a> {
     /// Replay restores the page from the image.
     pub apply: bool,

@@ -14,7 +14,7 @@ use std::marker::Model;
 
 /// A decoded record, lent from its bytes. Contracts see it as a `Record`: its header, its blocks in the
 /// order of their ids, and its main data.
-#[derive(Debug, Drop)]
+#[derive(Drop)]
 pub struct RecordView<'a> {
     head: RecordHead,
     /// All that stands behind the header.
@@ -40,7 +40,7 @@ impl<'a> Model for RecordView<'a> {
 }
 
 /// Where the parts of a record stand in its bytes, as `shape_of` found it.
-#[derive(Clone, Copy, Debug)]
+#[derive(Clone, Copy)]
 pub struct RecordShape {
     /// The length of the parts' headers.
     headers: usize,
