@@ -2,8 +2,8 @@
 ghost use Rattle.std.specs.Prelude.{◌==◌, if◌then◌else◌, None, Some};
 
 use crate::ids::{ids, show_ids};
+use crate::layers::Layers;
 use crate::marks::mask;
-use crate::session::Session;
 use case_text::{Answer, Wrong, number_u32};
 use commit_log::CommitLog;
 use heap_tuple::TupleView;
@@ -47,17 +47,17 @@ impl<'a> Statuses for Ended<'a> {
 pub fn answer(
     alloc: Global,
     said: &mut Answer,
-    session: &mut Session,
+    layers: &mut Layers,
     asked: &[&str],
 ) -> Result<(), Wrong> {
     if let ["take"] = *asked {
-        session.snapshot = taken(alloc, &session.known)?;
-        show(said, session.snapshot.as_ref());
+        layers.snapshot = taken(alloc, &layers.known)?;
+        show(said, layers.snapshot.as_ref());
         return Ok(());
     }
-    match &session.snapshot {
+    match &layers.snapshot {
         None => Err(Wrong::Line),
-        Some(snapshot) => ask(alloc, said, snapshot, &session.log, asked),
+        Some(snapshot) => ask(alloc, said, snapshot, &layers.log, asked),
     }
 }
 

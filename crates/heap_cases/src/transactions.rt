@@ -4,27 +4,27 @@
 //! A line `case NAME` begins a case, with nothing known. Each line below it is a step, whose first word names the
 //! layer, in the words of PostgreSQL; a record has its notation and its bytes behind bars. Ids stand in lists with
 //! commas; `-` is an empty list.
-use crate::session::Session;
+use crate::layers::Layers;
 use crate::{known, parents, record_changes, snapshots, statuses};
 use case_text::{Answer, BadLine, Wrong, bytes, parts, words};
 use std::alloc::Global;
 
 /// Answers the steps of each case of transactions in the text.
 pub fn answer_all(rt: &HostRuntime, text: &str) -> anyhow::Result<()> {
-    let mut session = None;
+    let mut layers = None;
     for (index, line) in text.lines().enumerate() {
         if let Some(name) = line.strip_prefix("case ") {
-            session = Some(Session::new(rt.alloc()));
+            layers = Some(Layers::new(rt.alloc()));
             println!(rt; "{name}")?;
             continue;
         }
-        let Some(session) = &mut session else {
+        let Some(layers) = &mut layers else {
             continue;
         };
         if line.is_empty() || line.starts_with('#') {
             continue;
         }
-        let text = reply(rt.alloc(), session, line).map_err(|wrong| BadLine {
+        let text = reply(rt.alloc(), layers, line).map_err(|wrong| BadLine {
             line: index.saturating_add(1),
             wrong,
         })?;
@@ -34,7 +34,7 @@ pub fn answer_all(rt: &HostRuntime, text: &str) -> anyhow::Result<()> {
 }
 
 /// What is printed for a step: the step, and the answer.
-fn reply(alloc: Global, session: &mut Session, line: &str) -> Result<String, Wrong> {
+fn reply(alloc: Global, layers: &mut Layers, line: &str) -> Result<String, Wrong> {
     let (asked, hex) = parts(line);
     let mut said = Answer::new(alloc);
     said.say("  ");
@@ -47,12 +47,12 @@ fn reply(alloc: Global, session: &mut Session, line: &str) -> Result<String, Wro
             record_changes::answer(
                 alloc,
                 &mut said,
-                &mut session.state,
+                &mut layers.state,
                 question,
                 data.as_slice(),
             )?;
         }
-        [layer, ref question @ ..] => step(alloc, &mut said, session, layer, question)?,
+        [layer, ref question @ ..] => step(alloc, &mut said, layers, layer, question)?,
         _ => return Err(Wrong::Line),
     }
     said.finish()
@@ -62,15 +62,15 @@ fn reply(alloc: Global, session: &mut Session, line: &str) -> Result<String, Wro
 fn step(
     alloc: Global,
     said: &mut Answer,
-    session: &mut Session,
+    layers: &mut Layers,
     layer: &str,
     asked: &[&str],
 ) -> Result<(), Wrong> {
     match layer {
-        "clog" => statuses::answer(alloc, said, &mut session.log, asked),
-        "subtrans" => parents::answer(alloc, said, &mut session.subs, asked),
-        "known" => known::answer(alloc, said, &mut session.known, asked),
-        "snapshot" => snapshots::answer(alloc, said, session, asked),
+        "clog" => statuses::answer(alloc, said, &mut layers.log, asked),
+        "subtrans" => parents::answer(alloc, said, &mut layers.subs, asked),
+        "known" => known::answer(alloc, said, &mut layers.known, asked),
+        "snapshot" => snapshots::answer(alloc, said, layers, asked),
         _ => Err(Wrong::Line),
     }
 }

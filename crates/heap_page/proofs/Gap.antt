@@ -2,7 +2,7 @@
 -- 8 bytes. So a tuple that has its room in the free part has it by the sum of all lines too.
 use Rattle.std.proofs.Common.{◌≡◌, ◌≢◌, inl, inr, ℕ, zero, suc, ◌+◌, ◌-◌, ◌*◌, ◌/◌, ◌%◌, ◌<◌, ◌≤◌, min, max, Bool, true, false, ◌&&◌, ◌||◌, nat_lt, List, length, take, sum_by, IsTrue, refl, sym, ap, ◌∙◌, arith}
 use Rattle.std.specs.Prelude.{nat_le}
-use Rattle.std.proofs.lemmas.Bool.{cases_eq, cases_lt, cases_Bool, both_ways}
+use Rattle.std.proofs.lemmas.Bool.{cases_eq, cases_lt, cases_Bool, both_ways, or_from}
 use Rattle.std.proofs.lemmas.Bool.Decides.{nat_tests}
 use Rattle.std.proofs.lemmas.List.Sums.{sum_by_more}
 use Rattle.heap_page.specs.Item.{unused, item_in, aligned, room_of, room_in}
@@ -31,9 +31,6 @@ one-or true true h = absurd (h refl refl)
 one-or true false h = refl
 one-or false true h = refl
 one-or false false h = refl
-
-or-false : (a b : Bool) → a ≡ false → b ≡ false → (a || b) ≡ false
-or-false a b e f = rw (e, f) refl
 
 -- two tests that never hold together
 count-or : (p q : ℕ → Bool) (n : ℕ) → ((u : ℕ) → u < n → p u ≡ true → q u ≡ true → ⊥) → count (λ u. p u || q u) n ≡ count p n + count q n
@@ -85,7 +82,7 @@ count-covers : (pointer n : ℕ) → state_in pointer ≡ 1 → IsRoom pointer �
 count-covers pointer zero normal room = omega arith
 count-covers pointer (suc n) normal room =
     let before = count-covers pointer n normal room in
-    let order : offset_in pointer / 8 ≤ end_of_room pointer / 8 = omega (arith, room.long) in
+    let order : offset_in pointer / 8 ≤ end_of_room pointer / 8 = omega (arith, room.not_empty) in
     elim (cases_lt n (offset_in pointer / 8)) [
       | inl low ↦ omega (arith, ap one (covers-low pointer n low), before, low, order)
       | inr from ↦ elim (cases_lt n (end_of_room pointer / 8)) [
@@ -116,7 +113,7 @@ taken page (suc k) unit = taken page k unit || covers (pointer_of page k) unit
 taken-by : (page : List ℕ) (k unit : ℕ) → ((j : ℕ) → j < k → covers (pointer_of page j) unit ≡ true → ⊥) → taken page k unit ≡ false
 taken-by page zero unit h = refl
 taken-by page (suc k) unit h =
-    or-false (taken page k unit) (covers (pointer_of page k) unit)
+    or_from (taken page k unit) (covers (pointer_of page k) unit)
     (taken-by page k unit (λ j l. h j (omega (arith, l))))
     (elim (cases_Bool (covers (pointer_of page k) unit)) [ inl yes_ ↦ absurd (h k (omega arith) yes_) | inr no_ ↦ no_ ])
 

@@ -9,7 +9,7 @@ use Rattle.heap_page.specs.Item.{Item, unused, normal, redirect, dead, before_tr
 use Rattle.heap_page.specs.Put.{put_answer, set_head_answer, with_head}
 use Rattle.heap_page.specs.declared.line.PageError.{PageError}
 use Rattle.heap_page.specs.declared.line.PageError.TheVariants.{Full, NoLine, BadPage}
-use Rattle.heap_page.proofs.LineLists.{used-number, changed-line, other-line}
+use Rattle.heap_page.proofs.LineLists.{used-number, changed-line, other-line, normal-used}
 
 before-tail : (x : Item) (ys xs : List Item) → before_trimmed x ys ≡ x ∷ xs → ys ≡ xs
 before-tail unused [] xs e = absurd (omega (arith, ap (length {A = Item}) e))
@@ -52,12 +52,6 @@ normal-is (normal b) e = refl
 normal-is (redirect n) e = absurd (false≢true e)
 normal-is dead e = absurd (false≢true e)
 
-normal-used : (item : Item) → is_normal item ≡ true → is_unused item ≡ false
-normal-used unused e = absurd (false≢true e)
-normal-used (normal b) e = refl
-normal-used (redirect n) e = refl
-normal-used dead e = refl
-
 abbrev head_by : Bool → Bool → Result (Unit {0}) PageError
 head_by line tuple = cond (not line) (Err NoLine) (cond (not tuple) (Err BadPage) (Ok tt))
 
@@ -71,8 +65,8 @@ unfolding set_head_answer
 head-answered items line head e = head-ok (is_normal (numbered items line)) (is_tuple (with_head (tuple_in (numbered items line)) head)) e
 
 same-room : (head tuple : List ℕ) → length head ≡ 23 → 24 ≤ length (with_head tuple head) → aligned (length (with_head tuple head)) ≡ aligned (length tuple)
-same-room head tuple h long =
-    let n : length (with_head tuple head) ≡ length tuple = omega (arith, h, long, length-append head (drop 23 tuple), length-drop 23 tuple) in
+same-room head tuple h header_fits =
+    let n : length (with_head tuple head) ≡ length tuple = omega (arith, h, header_fits, length-append head (drop 23 tuple), length-drop 23 tuple) in
     ap aligned n
 
 module _ (items : List Item) (line : ℕ) (head : List ℕ) (last : trimmed items ≡ items) (size : length head ≡ 23) (answer : set_head_answer items line head ≡ Ok tt) where
@@ -98,7 +92,7 @@ module _ (items : List Item) (line : ℕ) (head : List ℕ) (last : trimmed item
       let here : item_in items (line - 1) ≡ normal (tuple_in (numbered items line)) = sym used.2 ∙ normal-is (numbered items line) (head-answered items line head answer).0 in
       ap room_in after-is
       ∙ room-with_line items (line - 1) (normal tuple) used.1
-      (same-room head (tuple_in (numbered items line)) size (omega (arith, facts.long)) ∙ sym (ap room_of here))
+      (same-room head (tuple_in (numbered items line)) size (omega (arith, facts.header_fits)) ∙ sym (ap room_of here))
 
   same-use : (n : ℕ) → is_unused (numbered after n) ≡ is_unused (numbered items n)
   same-use n =

@@ -1,8 +1,8 @@
 -- Lists of lines: what stands at a line, and when two lists show the same items.
-use Rattle.std.proofs.Common.{◌-◌, true, false, arith, ◌≡◌, ◌≢◌, inl, inr, ℕ, zero, suc, ◌+◌, ◌<◌, ◌≤◌, List, [], ◌∷◌, length, take, refl, sym, ap, ◌∙◌}
+use Rattle.std.proofs.Common.{◌-◌, true, false, arith, ◌≡◌, ◌≢◌, inl, inr, ℕ, zero, suc, ◌+◌, ◌<◌, ◌≤◌, List, [], ◌∷◌, length, take, refl, sym, ap, ◌∙◌, Bool}
 use Rattle.std.proofs.lemmas.Bool.{cases_eq, cases_lt, false≢true}
 use Rattle.std.proofs.lemmas.List.{get_or-take, get_or_past, length-take}
-use Rattle.heap_page.specs.Item.{Item, unused, normal, redirect, dead, before_trimmed, trimmed, with_line, with_item, item_in, is_unused, numbered}
+use Rattle.heap_page.specs.Item.{Item, unused, normal, redirect, dead, before_trimmed, trimmed, with_line, with_item, item_in, is_unused, numbered, is_normal}
 
 -- a line shows the same with and without the unused lines at the end
 item_in-before_trimmed : (item : Item) (items : List Item) (k : ℕ) → item_in (before_trimmed item items) k ≡ item_in (item ∷ items) k
@@ -134,3 +134,10 @@ other-line items k item (suc j) h =
 
 pub trimmed-trimmed : (items : List Item) → trimmed (trimmed items) ≡ trimmed items
 trimmed-trimmed items = trimmed-same (trimmed items) items (item_in-trimmed items)
+
+-- a line with a tuple is used
+pub normal-used : (item : Item) → is_normal item ≡ true → is_unused item ≡ false
+normal-used unused h = absurd (false≢true h)
+normal-used (normal b) h = refl
+normal-used (redirect n) h = absurd (false≢true h)
+normal-used dead h = absurd (false≢true h)

@@ -9,18 +9,12 @@ use Rattle.heap_page.specs.Joined.{joined}
 use Rattle.heap_page.specs.Page.{is_laid, is_page, is_zeros}
 use Rattle.heap_page.specs.Put.{restored}
 use Rattle.heap_page.proofs.Written.{number_at-moved}
+use Rattle.std.proofs.Math.Bool.{and-true}
+use Rattle.heap_page.proofs.Restored.{all-zeros}
 
 pub parted_page : (page : List ℕ) (r : Bool) → length page ≡ 8192 → r ≡ (is_zeros page || is_laid page) → r ≡ is_page page
 unfolding is_page
 parted_page page r size is = rw (eq-eqb (length page) 8192 size) is
-
-zeros_are : (n : ℕ) → is_zeros (replicate n 0) ≡ true
-zeros_are zero = refl
-zeros_are (suc n) = zeros_are n
-
-and_true : (b : Bool) → (b && true) ≡ b
-and_true true = refl
-and_true false = refl
 
 -- a block that has no second part
 pub joined_whole : (page : List ℕ) → length page ≡ 8192 → joined page [] ≡ page
@@ -90,7 +84,7 @@ module _ (first rest : List ℕ) (room : length first + length rest ≤ 8192) wh
   unfolding joined
   are_zeros =
       list_all-append (λ byte. byte == 0) (first ++ zeros) rest
-      ∙ ap (λ (b : Bool). b && is_zeros rest) (list_all-append (λ byte. byte == 0) first zeros ∙ (ap (λ (b : Bool). is_zeros first && b) (zeros_are (8192 - (length first + length rest))) ∙ and_true (is_zeros first)))
+      ∙ ap (λ (b : Bool). b && is_zeros rest) (list_all-append (λ byte. byte == 0) first zeros ∙ (ap (λ (b : Bool). is_zeros first && b) (all-zeros (8192 - (length first + length rest))) ∙ and-true (is_zeros first)))
 
 pub two_bytes : (page : List ℕ) (at a b : ℕ) → a ≡ get_or page at 0 → b ≡ get_or page (at + 1) 0 → number_at 2 (a ∷ b ∷ []) 0 ≡ number_at 2 page at
 two_bytes page at a b ea eb = number_at-moved 2 0 at (a ∷ b ∷ []) page each

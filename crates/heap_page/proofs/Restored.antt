@@ -62,7 +62,7 @@ length-restored hole bytes long =
     let inner = length-append (take hole bytes) gap in
     omega (arith, outer, inner, length-take hole bytes, length-drop hole bytes)
 
-all-zeros : (n : ℕ) → is_zeros (replicate n 0) ≡ true
+pub all-zeros : (n : ℕ) → is_zeros (replicate n 0) ≡ true
 all-zeros zero = refl
 all-zeros (suc n) = all-zeros n
 

@@ -9,7 +9,7 @@ use Rattle.heap_page.specs.Item.{Item, unused, normal, redirect, dead, before_tr
 use Rattle.heap_page.specs.Page.{lower_of, upper_of, line_count, pointer_of, offset_in, state_in, length_in, bytes_at, item_of, lines_of, items_of, is_laid, IsPage}
 use Rattle.heap_page.specs.Change.{Becomes}
 use Rattle.heap_page.proofs.Laid.{Placed, laid-true, item_in-lines}
-use Rattle.heap_page.proofs.LineLists.{trimmed-same, trimmed-with_item, item_in-trimmed, item_in-take, item_in-take_past}
+use Rattle.heap_page.proofs.LineLists.{trimmed-same, trimmed-with_item, item_in-trimmed, item_in-take, item_in-take_past, normal-used}
 use Rattle.heap_page.proofs.Changes.{item_of-normal, bounds}
 use Rattle.heap_page.proofs.Header.{placed-at, page-size, length-lines, in_use, numbered-at, lines-bound}
 use Rattle.heap_page.proofs.Overwrite.{long-tuple}
@@ -172,12 +172,6 @@ normal-state page pointer h =
           ]) ∙ h))
     ]
 
-normal-used : (item : Item) → is_normal item ≡ true → is_unused item ≡ false
-normal-used unused h = absurd (false≢true h)
-normal-used (normal b) h = refl
-normal-used (redirect n) h = absurd (false≢true h)
-normal-used dead h = absurd (false≢true h)
-
 -- a line that has a tuple, by its number
 pub record NormalLine (page : List ℕ) (n : ℕ) : Type 0 where
   pub laid : IsTrue (is_laid page)
@@ -186,7 +180,7 @@ pub record NormalLine (page : List ℕ) (n : ℕ) : Type 0 where
   pub few : n - 1 < 2042
   pub points : state_in (pointer_of page (n - 1)) ≡ 1
   pub placed : Placed page (pointer_of page (n - 1))
-  pub long : 24 ≤ length_in (pointer_of page (n - 1))
+  pub header_fits : 24 ≤ length_in (pointer_of page (n - 1))
   pub bytes : tuple_in (numbered (items_of page) n) ≡ bytes_at page (pointer_of page (n - 1))
 
 pub normal_line : (page : List ℕ) (n : ℕ) → IsPage page → is_normal (numbered (items_of page) n) ≡ true → NormalLine page n
@@ -203,7 +197,7 @@ normal_line page n rule h =
       few = omega (arith, used.below, lines-bound page rule);
       points = points;
       placed = p;
-      long = long-tuple page w p (page-size page rule);
+      header_fits = long-tuple page w p (page-size page rule);
       bytes = ap tuple_in (is ∙ item_of-normal page w points);
     }
 

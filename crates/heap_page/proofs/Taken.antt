@@ -12,7 +12,7 @@ use Rattle.heap_page.proofs.Overwrite.{long-tuple}
 pub record IsRoom (pointer : ℕ) : Type 0 where
   pub begin : offset_in pointer % 8 ≡ 0
   pub end : end_of_room pointer % 8 ≡ 0
-  pub long : offset_in pointer < end_of_room pointer
+  pub not_empty : offset_in pointer < end_of_room pointer
   pub inside : end_of_room pointer ≤ 8192
 
 -- a line points to a tuple that takes this unit
@@ -41,7 +41,7 @@ pub room-placed : (page : List ℕ) (pointer : ℕ) → Placed page pointer → 
 room-placed page pointer p size = record {
   begin = p.multiple;
   end = end-whole (offset_in pointer) (length_in pointer) p.multiple;
-  long = end-past (offset_in pointer) (length_in pointer) (long-tuple page pointer p size);
+  not_empty = end-past (offset_in pointer) (length_in pointer) (long-tuple page pointer p size);
   inside = end-inside (offset_in pointer) (length_in pointer) p.multiple p.inside;
 }
 
@@ -90,7 +90,7 @@ taken-line page k first end old new t normal room at to free inside before past 
     record {
       apart = below_more _ k t.apart
           (λ j l s e. let other = t.rooms j l s in
-          share-none (offset_in (pointer_of page j)) (end_of_room (pointer_of page j)) (offset_in p) (end_of_room p) other.begin other.end room.begin room.end other.long room.long
+          share-none (offset_in (pointer_of page j)) (end_of_room (pointer_of page j)) (offset_in p) (end_of_room p) other.begin other.end room.begin room.end other.not_empty room.not_empty
           (λ unit f g a b. both_ways (get_or old unit false) (free.each unit (omega (arith, at, a)) (omega (arith, to, b))) (t.taken j l unit (record { normal = s; from = f; below = g }))));
       rooms = below_more _ k t.rooms (λ e. room);
       taken = below_more _ k

@@ -17,6 +17,9 @@ use Rattle.page_store.specs.Seen.{Seen, absent, bad_block, seen_page, seen, View
 use Rattle.heap_redo.specs.Redone.{content_of, stamped, is_anew, is_left, has_reached, left_by, redone_block, with_seen, or_zero_block, grown, view_with, table_of, view_by, redone_in, redone_at, Outcome, and_then, redone, Stands}
 use Rattle.heap_redo.proofs.OneBlock.{left-kept, redone-done, redone-by, left-ok, after-anew, after-restored}
 use Rattle.heap_redo.proofs.Sequence.{same-view, same-answer, redone-append, redone-first, redone-none}
+use Rattle.page_store.proofs.Blocks.{at-here}
+use Rattle.heap_redo.proofs.Views.{cond_view}
+use Rattle.std.specs.Cmp.{second_so}
 
 -- only a page comes of a change that is not left out
 is_page_content : Content → Bool
@@ -41,7 +44,7 @@ changed-page rec block broken content e = cc
 changed-page rec block (page items) content e = paged-page (changed rec block rec.kind items) content e
 
 -- the two ways, whatever was tested
-by_cases : {X : Type 0} (v : Bool) (a b c : X) (P : Type 0) → (v ≡ true → a ≡ c → P) → (v ≡ false → b ≡ c → P) → cond v a b ≡ c → P
+pub by_cases : {X : Type 0} (v : Bool) (a b c : X) (P : Type 0) → (v ≡ true → a ≡ c → P) → (v ≡ false → b ≡ c → P) → cond v a b ≡ c → P
 by_cases true a b c P f g e = f refl e
 by_cases false a b c P f g e = g refl e
 
@@ -67,10 +70,6 @@ stamped-reached end missing h = h
 stamped-reached end broken h = h
 stamped-reached end (page items) h = grind (arith, nat_tests)
 
-second : (a b : Bool) → (a && b) ≡ true → b ≡ true
-second true b e = e
-second false b e = absurd (false≢true e)
-
 module _ (rec : Rec) (block : RecBlock) where
   not_last : (before after_ : Seen) → redone_block rec block before ≡ Ok after_ → (block.block == 4294967295) ≡ false
   unfolding redone_block
@@ -93,7 +92,7 @@ module _ (rec : Rec) (block : RecBlock) where
       by_cases (block.block == 4294967295) (Err no_page) (cond (not (is_anew block) && has_reached rec.end.0 before) (Ok before) (left_by rec block before (after rec block (content_of before))))
       (Ok s) (has_reached rec.end.0 s ≡ true) (λ last bad. cc)
       (λ other done. by_cases (not (is_anew block) && has_reached rec.end.0 before) (Ok before) (left_by rec block before (after rec block (content_of before))) (Ok s) (has_reached rec.end.0 s ≡ true)
-      (λ was kept. let same : before ≡ s = cc in ap (has_reached rec.end.0) (sym same) ∙ second (not (is_anew block)) (has_reached rec.end.0 before) was)
+      (λ was kept. let same : before ≡ s = cc in ap (has_reached rec.end.0) (sym same) ∙ second_so (not (is_anew block)) (has_reached rec.end.0 before) was)
       (λ new changed. left-reached h before s (after rec block (content_of before)) (λ content k. after-page rec block (content_of before) content h k) changed) done) e
 
   -- a block that is left
@@ -160,10 +159,6 @@ kept-reached end (seen_page lsn items) h = h
 value : Bool → Bool → Bool → Seen → Seen → Seen
 value at grows fill left before = cond at left (cond grows (cond fill (or_zero_block before) before) before)
 
-apart : (grows : Bool) (f g : View) (t b : ℕ) → (cond grows f g) t b ≡ cond grows (f t b) (g t b)
-apart true f g t b = refl
-apart false f g t b = refl
-
 at-table : (tag : Tag) (t b : ℕ) → is_at tag t b ≡ true → t ≡ tag.table
 at-table tag t b h = grind (arith, nat_tests)
 
@@ -181,7 +176,7 @@ value-keeps f z false true true left before h e = z before e
 value-keeps f z false true false left before h e = e
 value-keeps f z false false fill left before h e = e
 
--- two runs agree, or the second one has what stands at the end
+-- two runs agree, or the second_so one has what stands at the end
 value-agrees : (at grows fill : Bool) (s u x y z : Seen) → (at ≡ true → (u ≡ s) ⊎ (u ≡ z)) → (y ≡ x) ⊎ (y ≡ z) → (is_present (value at grows fill s x) ≡ true → is_present z ≡ true) → (value at grows fill u y ≡ value at grows fill s x) ⊎ (value at grows fill u y ≡ z)
 unfolding value
 value-agrees true grows fill s u x y z h e p = h refl
@@ -199,7 +194,7 @@ module _ (rec : Rec) (block : RecBlock) (tag : Tag) where
 
   view-value : (view : View) (left : Seen) (t b : ℕ) → view_with rec block view tag left t b ≡ value (is_at tag t b) grows_to (fills t b) left (view t b)
   unfolding view_with with_seen grown value grows_to fills
-  view-value view left t b = ap (cond (is_at tag t b) left) (apart (is_anew block && not (is_left rec block)) (grown view tag) view t b)
+  view-value view left t b = ap (cond (is_at tag t b) left) (cond_view (is_anew block && not (is_left rec block)) (grown view tag) view t b)
 
 -- what is kept by each block's change is kept by a record
 module _ (rec : Rec) (known : List Locator) (f : Seen → Bool) (zero_keeps : (s : Seen) → f s ≡ true → f (or_zero_block s) ≡ true) (block_keeps : (block : RecBlock) (s u : Seen) → redone_block rec block s ≡ Ok u → f s ≡ true → f u ≡ true) where
@@ -240,7 +235,7 @@ module _ (rec : Rec) where
   present-by block true h s u e p = ap is_present (sym (left-same rec block h s u e)) ∙ p
   present-by block false h s u e p = reached-present rec.end.0 u (reached rec block h s u e)
 
-  -- the block that a second run leaves: as the first one, or what stands at the end
+  -- the block that a second_so run leaves: as the first one, or what stands at the end
   Same : RecBlock → Seen → Seen → Seen → Type 0
   Same block y left z = (u : Seen) × (redone_block rec block y ≡ Ok u) × ((u ≡ left) ⊎ (u ≡ z))
 
@@ -261,15 +256,12 @@ module _ (rec : Rec) where
   same-left block x y z left e (inr same) stays =
       by_ways block x y z left (is_left rec block) (is_anew block) refl refl e same stays
 
-  -- a second run agrees with the first one, or has what stands at the end
+  -- a second_so run agrees with the first one, or has what stands at the end
   Agrees : View → View → View → Type 0
   Agrees view other last = (t b : ℕ) → (other t b ≡ view t b) ⊎ (other t b ≡ last t b)
 
   Follows : Result View RedoFault → View → View → Type 0
   Follows r next last = (u : View) × (r ≡ Ok u) × Agrees next u last
-
-  at-here : (tag : Tag) → is_at tag tag.table tag.block ≡ true
-  at-here tag = grind (arith, nat_tests)
 
   agree-at : (block : RecBlock) (view other last next : View) (tag : Tag) (r : Result Seen BlockRefusal) → redone_block rec block (view tag.table tag.block) ≡ r → view_by rec block view tag r ≡ Ok next → Agrees view other last → ((t b : ℕ) → has_reached rec.end.0 (next t b) ≡ true → has_reached rec.end.0 (last t b) ≡ true) → ((t b : ℕ) → is_present (next t b) ≡ true → is_present (last t b) ≡ true) → Follows (view_by rec block other tag (redone_block rec block (other tag.table tag.block))) next last
   unfolding Agrees Follows Same value

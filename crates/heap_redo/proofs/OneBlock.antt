@@ -11,6 +11,9 @@ use Rattle.heap_redo.specs.declared.fault.BlockFault.{BlockFault}
 use Rattle.heap_redo.specs.Refused.{outcome, content_outcome}
 use Rattle.page_store.specs.Seen.{Seen, absent, bad_block, seen_page, seen}
 use Rattle.heap_redo.specs.Redone.{content_of, stamped, is_anew, is_left, has_reached, left_by, redone_block}
+use Rattle.std.specs.Cmp.{first_so, second_so}
+use Rattle.std.proofs.Math.Bool.{and-false}
+use Rattle.table_schema.proofs.Apart.{none_found}
 
 pub seen-page : (bytes : List ℕ) → IsPage bytes → seen (Some bytes) ≡ seen_page (lsn_of bytes) (items_of bytes)
 unfolding seen
@@ -29,10 +32,6 @@ unapplied image x e h = ap applied e ∙ ap (λ v. cond v (Some x) None) h
 
 pub restored-image : (image : Option RecImage) (x : RecImage) → image ≡ Some x → x.apply ≡ true → applied image ≡ Some x
 restored-image image x e h = ap applied e ∙ ap (λ v. cond v (Some x) None) h
-
-none : {X : Type 0} → (o : Option X) → is_some o ≡ false → o ≡ None
-none None e = refl
-none (Some x) e = absurd (false≢true (sym e))
 
 or-left : (a b : Bool) → (a || b) ≡ false → a ≡ false
 or-left true b e = e
@@ -61,18 +60,14 @@ module _ (rec : Rec) (block : RecBlock) where
   init-true e h = ap (λ image. is_some image || block.will_init) (sym e) ∙ h
 
   pub image-not : is_anew block ≡ false → applied block.image ≡ None
-  image-not h = none (applied block.image) (or-left (is_some (applied block.image)) block.will_init h)
+  image-not h = none_found (applied block.image) (or-left (is_some (applied block.image)) block.will_init h)
 
   -- an image is restored
   pub image-anew : (image : RecImage) → applied block.image ≡ Some image → is_anew block ≡ true
   image-anew image restored = ap (λ found. is_some found || block.will_init) restored
 
-  and-not : (a : Bool) → (a && false) ≡ false
-  and-not true = refl
-  and-not false = refl
-
   pub image-not_left : (image : RecImage) → applied block.image ≡ Some image → is_left rec block ≡ false
-  image-not_left image restored = ap (λ found. is_images rec.kind && not (is_some found)) restored ∙ and-not (is_images rec.kind)
+  image-not_left image restored = ap (λ found. is_images rec.kind && not (is_some found)) restored ∙ and-false (is_images rec.kind)
 
   -- the block is not the one that no table has
   module _ (not-last : (block.block == 4294967295) ≡ false) where
@@ -186,20 +181,16 @@ module _ (rec : Rec) (block : RecBlock) where
 
 -- a block that is missing, or is no page, and is not made anew
 module _ (rec : Rec) (block : RecBlock) (below : (block.block == 4294967295) ≡ false) (anew : is_anew block ≡ false) (left : is_left rec block ≡ false) where
-  and-none : (a : Bool) → (a && false) ≡ false
-  and-none true = refl
-  and-none false = refl
-
   pub missing-refused : Err no_page ≡ redone_block rec block absent
   unfolding changed_page
   missing-refused =
-      sym (redone-by rec block below absent (and-none (not (is_anew block)))
+      sym (redone-by rec block below absent (and-false (not (is_anew block)))
       ∙ ap (left_by rec block absent) (after-there rec block below anew left missing))
 
   pub broken-refused : Err bad_page ≡ redone_block rec block bad_block
   unfolding changed_page
   broken-refused =
-      sym (redone-by rec block below bad_block (and-none (not (is_anew block)))
+      sym (redone-by rec block below bad_block (and-false (not (is_anew block)))
       ∙ ap (left_by rec block bad_block) (after-there rec block below anew left broken))
 
 -- a block that is left, and the block that no table has
@@ -209,14 +200,6 @@ module _ (rec : Rec) (block : RecBlock) where
   last-refused h before =
       let e : (block.block == 4294967295) ≡ true = grind (arith, nat_tests) in
       sym (ap (λ v. cond v (Err no_page) (cond (not (is_anew block) && has_reached rec.end.0 before) (Ok before) (left_by rec block before (after rec block (content_of before))))) e)
-
-  both-true : (a b : Bool) → (a && b) ≡ true → a ≡ true
-  both-true true b e = refl
-  both-true false b e = e
-
-  both-true_right : (a b : Bool) → (a && b) ≡ true → b ≡ true
-  both-true_right true b e = e
-  both-true_right false b e = absurd (false≢true e)
 
   not-true : (a : Bool) → not a ≡ true → a ≡ false
   not-true true e = sym e
@@ -229,8 +212,8 @@ module _ (rec : Rec) (block : RecBlock) where
   pub left-kept : (block.block == 4294967295) ≡ false → is_left rec block ≡ true → (before : Seen) → Ok before ≡ redone_block rec block before
   unfolding redone_block after_change
   left-kept below h before =
-      let images = both-true (is_images rec.kind) (not (is_some (applied block.image))) h in
-      let no_image = none (applied block.image) (not-true (is_some (applied block.image)) (both-true_right (is_images rec.kind) (not (is_some (applied block.image))) h)) in
+      let images = first_so (is_images rec.kind) (not (is_some (applied block.image))) h in
+      let no_image = none_found (applied block.image) (not-true (is_some (applied block.image)) (second_so (is_images rec.kind) (not (is_some (applied block.image))) h)) in
       let kept : Bool → Result Seen BlockRefusal = λ v. Ok (cond v before (stamped rec.end.0 (content_of before))) in
       let after_kept : left_by rec block before (after rec block (content_of before)) ≡ Ok before =
       ap (left_by rec block before) (after-is rec block below (content_of before) None no_image

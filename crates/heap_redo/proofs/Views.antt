@@ -1,8 +1,7 @@
 -- The blocks of a pool as redo sees them, after one of them changed.
-use Rattle.std.proofs.Common.{arith, ap, sym, refl, ◌∙◌, ◌≡◌, ◌≢◌, inl, inr, ℕ, Bool, true, false, not, ◌&&◌, ◌==◌, cond, nat_lt, List, Option, Some, None, Result, Ok, Err, IsOk, subst}
+use Rattle.std.proofs.Common.{arith, ap, sym, refl, ◌∙◌, ◌≡◌, inl, inr, ℕ, Bool, true, false, not, ◌&&◌, ◌==◌, cond, nat_lt, List, Option, Some, None, Result, Ok, Err, IsOk, subst}
 use Rattle.std.proofs.Math.Path.{fun_ext}
 use Rattle.std.proofs.lemmas.Bool.{cases_eq}
-use Rattle.std.proofs.lemmas.Bool.Decides.{nat_tests}
 use Rattle.pg_types.specs.declared.names.Tag.{Tag}
 use Rattle.heap_page.specs.Item.{Item}
 use Rattle.heap_page.specs.Page.{is_page, lsn_of, items_of}
@@ -18,6 +17,12 @@ use Rattle.heap_redo.specs.Refused.{pool_fault_at}
 use Rattle.page_store.specs.Seen.{Seen, bad_block, seen_page, seen, View, view_of}
 use Rattle.heap_redo.specs.Redone.{is_anew, is_left, redone_block, with_seen, or_zero_block, grown, view_with, view_by, view_outcome, Follows, fault_by, fault_outcome}
 use Rattle.heap_redo.proofs.OneBlock.{missing-refused, broken-refused, image-anew, image-not_left}
+use Rattle.page_store.proofs.Blocks.{at-other_block, at-other_table}
+
+-- two ways to see blocks, at one of them
+pub cond_view : (v : Bool) (f g : View) (t b : ℕ) → (cond v f g) t b ≡ cond v (f t b) (g t b)
+cond_view true f g t b = refl
+cond_view false f g t b = refl
 
 seen-cond : (v : Bool) (bytes : List ℕ) (block : Option (List ℕ)) → seen (cond v (Some bytes) block) ≡ cond v (seen (Some bytes)) (seen block)
 seen-cond true bytes block = refl
@@ -46,12 +51,6 @@ view-filled blocks tag = fun_ext (λ t. fun_ext (λ b. seen-filled ((t == tag.ta
 
 -- what stands there is put there
 module _ {X : Type 0} (f : ℕ → ℕ → X) (tag : Tag) (x : X) (e : f tag.table tag.block ≡ x) where
-  at-other_table : (t b : ℕ) → t ≢ tag.table → is_at tag t b ≡ false
-  at-other_table t b n = grind (arith, nat_tests)
-
-  at-other_block : (t b : ℕ) → b ≢ tag.block → is_at tag t b ≡ false
-  at-other_block t b n = grind (arith, nat_tests)
-
   either : (v : Bool) (a b : X) → a ≡ b → cond v a b ≡ b
   either true a b e = e
   either false a b e = refl
@@ -61,9 +60,9 @@ module _ {X : Type 0} (f : ℕ → ℕ → X) (tag : Tag) (x : X) (e : f tag.tab
       fun_ext (λ t. fun_ext (λ b. elim (cases_eq t tag.table) [
         | inl same_table ↦ elim (cases_eq b tag.block) [
           | inl same_block ↦ either (is_at tag t b) x (f t b) (sym (ap (λ n. f n b) same_table ∙ ap (f tag.table) same_block ∙ e))
-          | inr other ↦ ap (λ v. cond v x (f t b)) (at-other_block t b other)
+          | inr other ↦ ap (λ v. cond v x (f t b)) (at-other_block tag t b other)
         ]
-        | inr other ↦ ap (λ v. cond v x (f t b)) (at-other_table t b other)
+        | inr other ↦ ap (λ v. cond v x (f t b)) (at-other_table tag t b other)
       ]))
 
 pub with_block-same : (blocks : Blocks) (tag : Tag) (bytes : List ℕ) → blocks tag.table tag.block ≡ Some bytes → with_block blocks tag bytes ≡ blocks

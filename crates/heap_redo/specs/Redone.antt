@@ -6,13 +6,13 @@ use Rattle.pg_types.specs.declared.names.Locator.{Locator}
 use Rattle.page_store.specs.Content.{zeros, is_at}
 use Rattle.wal_bodies.specs.declared.types.Rec.{Rec}
 use Rattle.wal_bodies.specs.declared.types.RecBlock.{RecBlock}
-use Rattle.wal_bodies.specs.HeapKinds.{same_locator}
 use Rattle.heap_redo.specs.After.{BlockRefusal, no_page, Content, missing, broken, page, applied, is_images, after}
 use Rattle.heap_redo.specs.declared.fault.RedoFault.{RedoFault}
 use Rattle.heap_redo.specs.declared.fault.RedoFault.TheVariants.{Memory}
 use Rattle.heap_redo.specs.declared.fault.BlockFault.{BlockFault}
 use Rattle.heap_redo.specs.Refused.{refusal_of, fault_at}
 use Rattle.page_store.specs.Seen.{Seen, absent, bad_block, seen_page, seen, View}
+use Rattle.pg_types.specs.Locators.{same_locator}
 
 -- what the change of a block starts from
 abbrev pub content_of : Seen → Content

@@ -8,7 +8,7 @@ pub record TupleFacts (bytes : List ℕ) : Type 0 where
   pub behind_header : 24 ≤ hoff_of bytes
   pub behind_nulls : least_hoff bytes ≤ hoff_of bytes
   pub inside : hoff_of bytes ≤ length bytes
-  pub long : 24 ≤ length bytes
+  pub header_fits : 24 ≤ length bytes
 
 pub tuple_facts : (bytes : List ℕ) → IsTuple bytes → TupleFacts bytes
 unfolding is_tuple is_tuple_head
@@ -18,7 +18,7 @@ tuple_facts bytes h =
       behind_header = grind (arith, nat_tests);
       behind_nulls = grind (arith, nat_tests);
       inside = grind (arith, nat_tests);
-      long = grind (arith, nat_tests);
+      header_fits = grind (arith, nat_tests);
     }
 
 -- the bit of each column stands inside a tuple that has nulls

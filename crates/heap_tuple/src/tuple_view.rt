@@ -38,7 +38,7 @@ impl<'a> Model for TupleView<'a> {
 #[tactic(auto, using(std::proofs::lemmas::Bool::Decides::nat_tests), unfolding(crate::specs::Tuple::is_tuple, crate::specs::Tuple::is_tuple_head))]
 pub fn is_tuple(bytes: &[u8]) -> bool
     ensures value { result ≡ is_tuple bytes.now }
-    ensures long { IsTrue result → 24 ≤ length bytes.now }
+    ensures header_fits { IsTrue result → 24 ≤ length bytes.now }
     ensures inside { IsTrue result → hoff_of bytes.now ≤ length bytes.now }
 {
     if bytes.len() < 24 {
@@ -105,7 +105,7 @@ impl<'a> TupleView<'a> {
     pub fn bytes(&self) -> &'a [u8]
         ensures value { result.now ≡ self.now }
         ensures tuple { IsTuple self.now }
-        ensures long { 24 ≤ length self.now }
+        ensures header_fits { 24 ≤ length self.now }
     {
         self.bytes
     }

@@ -2,7 +2,6 @@
 use Rattle.std.proofs.Common.{◌≡◌, ℕ, ◌+◌, ◌≤◌, max, Bool, true, false, not, ◌&&◌, cond, List, [], ◌∷◌, ◌++◌, arith}
 use Rattle.std.proofs.lemmas.Bool.{both_ways, false_from_ne_true, or_right}
 use Rattle.pg_types.specs.declared.names.Locator.{Locator}
-use Rattle.wal_bodies.specs.HeapKinds.{same_locator}
 use Rattle.wal_bodies.specs.declared.types.RecBlock.{RecBlock}
 use Rattle.wal_bodies.specs.declared.types.Rec.{Rec}
 use Rattle.heap_redo.specs.Redone.{is_left}
@@ -15,6 +14,7 @@ use Rattle.row_model.specs.LegalRows.{LegalAlong}
 use Rattle.row_redo.proofs.Later.{live_uncommitted}
 use Rattle.kept_rows.proofs.Carried.{AreCarried, all_carried, carried_steps}
 use Rattle.kept_rows.proofs.Plain.{steps_plain}
+use Rattle.pg_types.specs.Locators.{same_locator}
 
 -- who had committed has
 committed_since : (o : LogOrigin) (later opened : List Rec) (x : ℕ) → committed_in o opened x ≡ true → committed_in o (later ++ opened) x ≡ true

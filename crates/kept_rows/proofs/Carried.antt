@@ -1,6 +1,6 @@
 -- Which versions stood as a scan was opened, and whether each of them was a row then, after further steps.
-use Rattle.std.proofs.Common.{◌≡◌, ℕ, Bool, true, false, not, ◌&&◌, ◌==◌, cond, List, [], ◌∷◌, Option, Some, None, refl, sym, ap, ◌∙◌, subst}
-use Rattle.std.proofs.lemmas.Bool.{and_parts, eqb-true, false≢true}
+use Rattle.std.proofs.Common.{◌≡◌, ℕ, Bool, true, false, not, ◌==◌, cond, List, [], ◌∷◌, Option, Some, None, refl, sym, ap, ◌∙◌, subst}
+use Rattle.std.proofs.lemmas.Bool.{false≢true}
 use Rattle.std.specs.List.{filter, list_any}
 use Rattle.pg_types.specs.declared.names.Locator.{Locator}
 use Rattle.heap_tuple.specs.Tuple.{xmin_of}
@@ -11,9 +11,10 @@ use Rattle.row_model.specs.Origins.{HasFailed, IsLive, LogOrigin}
 use Rattle.row_model.specs.Multixacts.{deleter_in, multixacts}
 use Rattle.row_model.specs.Locks.{HeldLock, is_held_by, locks, releases, since_shutdown}
 use Rattle.row_model.specs.Rows.{counts, has_committed, is_deleted}
-use Rattle.row_model.specs.LegalSteps.{BirthMarks, BirthRule, BirthStep, BornFrozen, DeleterStep, EachStep, Fades, IfVersion, IsSpent, MayFollow, MayUndo, Stays, Takes, Unmarked}
+use Rattle.row_model.specs.LegalSteps.{BirthMarks, BirthRule, BirthStep, BornFrozen, DeleterStep, EachStep, Fades, IsSpent, MayFollow, MayUndo, Stays, Takes, Unmarked}
 use Rattle.row_redo.proofs.Places.{KeepsPlace, at_changed, found_there, one_place, put}
 use Rattle.kept_rows.proofs.Plain.{ArePlain, IsPlain}
+use Rattle.row_redo.proofs.Apart.{at_same_place, if_version}
 
 -- a version was born since: by the test of what had committed then its inserter does not count, and no mark says frozen
 pub record IsNew (was : ℕ → Bool) (v : Version) : Type 0 where
@@ -71,12 +72,6 @@ put_over opened was w true old place new free carried =
     subst (λ (p : Option Version). CarriedTo opened was p w) (sym none) new
 put_over opened was w false old place new free carried = carried
 
-at_same_place : (block line b l : ℕ) (vs : List Version) → ((b == block) && (l == line)) ≡ true → version_at b l vs ≡ None → version_at block line vs ≡ None
-at_same_place block line b l vs h e =
-    let (p, q) = and_parts (b == block) (l == line) h in
-    subst (λ (n : ℕ). version_at block n vs ≡ None) (eqb-true l line q)
-    (subst (λ (n : ℕ). version_at n l vs ≡ None) (eqb-true b block p) e)
-
 -- a change of the version at a place
 module _ (opened : List Rec) (was : ℕ → Bool) (b l : ℕ) (f : Version → Version) (keeps : KeepsPlace f) (vs : List Version)
     (follows : (old : Option Version) (w : Version) → version_at b l vs ≡ Some w → CarriedTo opened was old w → CarriedTo opened was old (f w)) where
@@ -102,10 +97,6 @@ module _ (opened : List Rec) (was : ℕ → Bool) (b l : ℕ) (f : Version → V
   carried_changed block line old carried =
       subst (λ (p : Option Version). CarriedAt opened was old p) (sym (at_changed b l f keeps block line vs))
       (carried_put block line old (version_at block line vs) refl carried)
-
-if_version : (x : Option Version) (Rule : Version → Type 0) (w : Version) → x ≡ Some w → IfVersion x Rule → Rule w
-if_version None Rule w e rule = cc
-if_version (Some v) Rule w e rule = let same : v ≡ w = cc in subst Rule same rule
 
 -- the steps of a record behind these, of which who is live or has failed had not committed then
 module _ (o : LogOrigin) (table : Locator) (older opened : List Rec) (was : ℕ → Bool)

@@ -20,7 +20,7 @@ use Rattle.row_model.specs.Multixacts.{multixacts}
 use Rattle.row_model.specs.RowSteps.{block_count, versions}
 use Rattle.row_model.specs.Rows.{counts, is_deleted, is_row}
 use Rattle.row_model.specs.Shows.{Shows, ShowsPlace}
-use Rattle.row_model.specs.Shown.{HasNone, IsSound, ShowsSeen, ShowsTable}
+use Rattle.row_model.specs.Shown.{IsSound, ShowsSeen, ShowsTable}
 use Rattle.row_model.specs.LegalRows.{LegalLog}
 use Rattle.row_model.specs.Prefixes.{PrefixIsLegal}
 use Rattle.row_redo.specs.Shown.{BlocksShowVersions}
@@ -31,6 +31,7 @@ use Rattle.row_pages.proofs.SameRow.{row_same}
 use Rattle.kept_rows.specs.Kept.{KeepsRows}
 use Rattle.kept_rows.proofs.Along.{carried_along, count_along}
 use Rattle.kept_rows.proofs.Carried.{AreCarried, CarriedAt, IsKept, IsNew}
+use Rattle.row_model.proofs.Shown.{none_there}
 
 -- the log at the opening is legal
 legal_then : PrefixIsLegal → (o : LogOrigin) (known : List Locator) (later opened : List Rec) → LegalLog o known (later ++ opened) → LegalLog o known opened
@@ -107,16 +108,11 @@ module _ (o : LogOrigin) (later opened : List Rec) (columns : List Column) (sees
         (λ v e. (table.sound block line v e, table.behind_header block line v e))
         (λ v e. then_shown.sound block line v e)
 
-    none_past : (block : ℕ) (page : Seen) → first ≤ block → ShowsSeen o opened old first block page → HasNone old block
-    none_past block absent past (end, none) = none
-    none_past block bad_block past shows = absurd shows
-    none_past block (seen_page lsn items) past (within, shows) = absurd (omega arith)
-
     pub table_read : ReadsTable columns sees was_row old first blocks
     table_read =
         record {
           each = λ block below. seen_read block (blocks block) below (table.shows block);
-          past = λ block past. none_past block (before block) past (then_shown.shows block);
+          past = λ block past. none_there o opened old first block (before block) past (then_shown.shows block);
           apart = then_shown.apart;
           lost = then_shown.lost;
         }

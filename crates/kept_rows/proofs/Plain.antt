@@ -1,7 +1,6 @@
 -- The records that are read bear and mark versions, and take insertions back: they remove and freeze none.
 use Rattle.std.proofs.Common.{ℕ, ◌+◌, Bool, true, false, not, ◌&&◌, ◌==◌, cond, nat_le, List, [], ◌∷◌, ◌++◌, Option, Some, None}
 use Rattle.pg_types.specs.declared.names.Locator.{Locator}
-use Rattle.wal_bodies.specs.HeapKinds.{same_locator}
 use Rattle.wal_bodies.specs.declared.types.RecImage.{RecImage}
 use Rattle.wal_bodies.specs.declared.types.NewTuple.{NewTuple}
 use Rattle.wal_bodies.specs.declared.types.RecBlock.{RecBlock}
@@ -13,6 +12,7 @@ use Rattle.heap_redo.specs.After.{applied, number_of}
 use Rattle.heap_page.specs.Item.{Item, unused, normal, redirect, dead}
 use Rattle.row_model.specs.Versions.{Version, RowStep, Born, Deleter, Undone, Removed, Frozen, version_at}
 use Rattle.row_model.specs.RowSteps.{deleter_of_mark, items_in, births_written, births_shown, births, version_written, version_put, values_of, update_steps, own_steps, puts_tuples, births_of_items, whole_steps, block_steps, steps_in}
+use Rattle.pg_types.specs.Locators.{same_locator}
 
 abbrev pub IsPlain : RowStep → Type 0
 IsPlain (Born whole block line tuple) = Unit {0}

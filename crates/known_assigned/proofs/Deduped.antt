@@ -6,7 +6,7 @@ use Rattle.std.proofs.lemmas.Bool.{and_parts, and_from, leb-true, le-leb, lt-ltb
 use Rattle.known_assigned.specs.declared.running_set.Slot.{Slot}
 use Rattle.known_assigned.specs.Ids.{is_among, with_ids}
 use Rattle.known_assigned.specs.Slots.{is_rising, live_ids}
-use Rattle.known_assigned.proofs.Ordered.{list_all-weaker}
+use Rattle.known_assigned.proofs.Ordered.{list_all-weaker, or_twice}
 use Rattle.known_assigned.proofs.Slotted.{above, from, length-live_ids, length-live_ids_of}
 use Rattle.known_assigned.proofs.Sets.{is_among-sorted, live_ids-from}
 
@@ -119,10 +119,6 @@ is_among-deduped_from y kept (s ∷ rest) live all =
           let left : is_among y (live_ids (dedup_from same_id kept (s ∷ rest))) ≡ (nat_eq kept.xid y || is_among y (live_ids (dedup_from same_id s rest))) = rw (other, live) refl in
           left ∙ ap (λ b. nat_eq kept.xid y || b) (is_among-deduped_from y s rest parts.0 parts.1 ∙ sym there)
     ]
-  where
-    or_twice : (a b : Bool) → (a || b) ≡ (a || (a || b))
-    or_twice true b = refl
-    or_twice false b = refl
 
 is_among-deduped : (y : ℕ) (slots : List Slot) → length slots ≤ length (live_ids slots) → is_among y (live_ids (dedup same_id slots)) ≡ is_among y (live_ids slots)
 is_among-deduped y [] h = refl

@@ -12,6 +12,10 @@ list_all-weaker p q implies (x ∷ xs) h =
     let parts = and_parts (p x) (list_all p xs) h in
     and_from (q x) (list_all q xs) (implies x parts.0) (list_all-weaker p q implies xs parts.1)
 
+pub or_twice : (a b : Bool) → (a || b) ≡ (a || (a || b))
+or_twice true b = refl
+or_twice false b = refl
+
 -- a filter that all pass
 pub filter-whole : {X : Type 0} (p : X → Bool) (xs : List X) → list_all p xs ≡ true → filter p xs ≡ xs
 filter-whole p [] h = refl
@@ -85,10 +89,6 @@ is_among-with_id y x (z ∷ zs) =
       ]
     ]
   where
-    or_twice : (a b : Bool) → (a || b) ≡ (a || (a || b))
-    or_twice true b = refl
-    or_twice false b = refl
-
     or_turned : (a b c : Bool) → (a || (b || c)) ≡ (b || (a || c))
     or_turned true true c = refl
     or_turned true false c = refl

@@ -11,6 +11,7 @@ use Rattle.known_assigned.specs.Ids.{is_among, numbers, with_id, with_ids}
 use Rattle.known_assigned.specs.Slots.{is_rising, live_ids}
 use Rattle.known_assigned.proofs.Ordered.{is_among-none, is_among-with_id, list_all-weaker, others-above}
 use Rattle.known_assigned.proofs.Slotted.{above, length-live_ids_of, list_all-live_ids}
+use Rattle.std.proofs.Math.Bool.{or-false}
 
 -- whether each id is below all later ones
 abbrev pub ordered : List ℕ → Bool
@@ -155,11 +156,7 @@ is_among-sorted y slots sorted moved =
 pub live_ids-from : (slots kept : List Slot) → is_rising kept ≡ true → ((y : ℕ) → is_among y (live_ids kept) ≡ is_among y (live_ids slots)) → live_ids kept ≡ with_ids (live_ids slots) []
 live_ids-from slots kept h among =
     same_set (live_ids kept) (with_ids (live_ids slots) []) (ordered-live_ids kept h) (ordered-with_ids (live_ids slots) [] refl)
-    (λ y. among y ∙ sym (is_among-with_ids y (live_ids slots) [] ∙ or_false (is_among y (live_ids slots))))
-  where
-    or_false : (b : Bool) → (b || false) ≡ b
-    or_false true = refl
-    or_false false = refl
+    (λ y. among y ∙ sym (is_among-with_ids y (live_ids slots) [] ∙ or-false (is_among y (live_ids slots))))
 
 -- the places of listed ids
 abbrev pub placed : List Xid → List Slot

@@ -4,12 +4,12 @@ use Rattle.std.proofs.lemmas.Bool.{eq-eqb, lt-ltb}
 use Rattle.std.specs.Prelude.{◌==◌, slice_get, unwrap_or}
 use Rattle.std.specs.List.{position_or_len}
 use Rattle.pg_types.specs.declared.names.Locator.{Locator}
-use Rattle.wal_bodies.specs.HeapKinds.{same_locator}
 use Rattle.heap_redo.specs.Redone.{table_of}
 use Rattle.table_schema.specs.Description.{Description, DescribedTable, first_that, has_file, is_named, locator_in, locators, table_at}
 use Rattle.table_schema.specs.Laws.{TablesAreApart}
 use Rattle.table_schema.specs.Reading.{Answers}
 use Rattle.table_schema.specs.Tables.{file_of, nameless, number_named}
+use Rattle.pg_types.specs.Locators.{same_locator}
 
 -- the first that passes a test is there
 record IsAt {A : Type 0} (test : A → Bool) (k n : ℕ) (xs : List A) : Type 0 where

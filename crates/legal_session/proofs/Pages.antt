@@ -33,9 +33,10 @@ use Rattle.session_model.specs.NodeSteps.{NodeStep, Reads}
 use Rattle.legal_session.specs.AbstractStandby.{AbstractScan, AbstractStandby, GivesRows, ReadsScan, Step, World, after_block, given_block, log_origin, scan_in, without_scan}
 use Rattle.legal_session.specs.Represents.{Represents, StandsForScan}
 use Rattle.legal_session.proofs.Facts.{IsGood, Laws, LogLaws, begins_empty, legal_log, log_fits, log_rises, stood, table_shown}
-use Rattle.legal_session.proofs.Placed.{all_from, none_past, none_there}
+use Rattle.legal_session.proofs.Placed.{all_from, none_past}
 use Rattle.legal_session.proofs.Scans.{AreFound, are_found, are_moved, are_without}
 use Rattle.legal_session.proofs.Steps.{LeadsTo, with_scans}
+use Rattle.row_model.proofs.Shown.{none_there}
 
 -- of a table that had no blocks there are no rows
 no_rows :

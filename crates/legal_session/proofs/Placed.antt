@@ -7,12 +7,9 @@ use Rattle.std.proofs.lemmas.List.{nil_from_length}
 use Rattle.std.proofs.lemmas.List.Elements.{All-head, All-tail}
 use Rattle.std.proofs.lemmas.List.Sorted.{sum_by-IsPermutation}
 use Rattle.std.proofs.lemmas.List.Sums.{sum_by-cons}
-use Rattle.wal_bodies.specs.declared.types.Rec.{Rec}
-use Rattle.page_store.specs.Seen.{Seen, absent, bad_block, seen_page}
-use Rattle.row_model.specs.Origins.{LogOrigin}
 use Rattle.row_model.specs.Versions.{Version, is_at, version_at}
 use Rattle.row_model.specs.Rows.{IsBefore, IsBeforeAll, IsInPlaceOrder}
-use Rattle.row_model.specs.Shown.{HasNone, ShowsSeen}
+use Rattle.row_model.specs.Shown.{HasNone}
 use Rattle.row_pages.specs.Pages.{is_in_block}
 
 -- a version stands in this block or behind it
@@ -149,11 +146,3 @@ pub none_among : (p : Version → Bool) (vs rows : List Version) → IsPermutati
 none_among p vs rows same none =
     nil_from_length (filter p rows)
     (sym (numbers p rows) ∙ sum_by-IsPermutation (number_of p) vs rows same ∙ numbers p vs ∙ ap length none)
-
--- past the last block no version stands
-pub none_there :
-    (o : LogOrigin) (log : List Rec) (vs : List Version) (count block : ℕ) (seen : Seen) → count ≤ block
-    → ShowsSeen o log vs count block seen → HasNone vs block
-none_there o log vs count block absent past (further, none) = none
-none_there o log vs count block bad_block past shows = absurd shows
-none_there o log vs count block (seen_page lsn items) past (within, shows) = absurd (omega (arith, past, within))

@@ -9,7 +9,6 @@ use Rattle.wal_bodies.specs.declared.types.Rec.{Rec}
 use Rattle.heap_redo.specs.declared.fault.RedoFault.{RedoFault}
 use Rattle.heap_redo.specs.Redone.{redone, table_of}
 use Rattle.known_assigned.specs.declared.state.State.{State}
-use Rattle.known_assigned.specs.declared.state.State.TheVariants.{Initialized, Pending, Ready}
 use Rattle.page_store.specs.Seen.{View}
 use Rattle.standby_snapshot.specs.Snapshot.{take_of}
 use Rattle.xact_redo.specs.State.{TransactionState, state_after}
@@ -19,7 +18,7 @@ use Rattle.table_schema.specs.Description.{Description, locators}
 use Rattle.table_schema.specs.Reading as schema
 use Rattle.table_schema.specs.Tables.{file_of, number_named}
 use Rattle.standby_model.specs.Log as log
-use Rattle.standby_model.specs.Log.{Described, Stop, next_of, record_at}
+use Rattle.standby_model.specs.Log.{Stop, next_of, record_at}
 use Rattle.standby_core.specs.declared.scans.NodeScan.{NodeScan}
 use Rattle.standby_core.specs.declared.scans.Opened.{Opened as OpenedBy}
 use Rattle.standby_core.specs.Replay.{awaited_after, refusal_of}
@@ -32,6 +31,7 @@ use Rattle.legal_session.specs.AbstractStandby.{AbstractScan, AbstractStandby, S
 use Rattle.legal_session.specs.Represents.{Represents, StandForScans, StandsForScan}
 use Rattle.legal_session.proofs.Facts.{IsGood, Laws, legal_log, one_count, redone_is, seen_there, table_shown}
 use Rattle.legal_session.proofs.Scans.{are_found, are_without, both_found, later_scans, one_opened, same_count}
+use Rattle.standby_core.proofs.Opening.{ready_when}
 
 -- the abstract standby then, which is what the step leads to
 abbrev pub LeadsTo : World → ℕ → (AbstractStandby → Type 0) → Standby → Type 0
@@ -56,11 +56,6 @@ with_scans w start node s ones scans is all = record {
   scans = all;
   next_id = is.next_id;
 }
-
-ready_when : (mode : State) → is_ready mode ≡ true → mode ≡ Ready
-ready_when Initialized e = cc
-ready_when (Pending until) e = cc
-ready_when Ready e = refl
 
 abbrev status_so : ℕ → ℕ → Bool → State → ℕ → Status
 status_so at min awaited state scans = record { at = at; min = min; awaited = awaited; state = state; scans = scans }

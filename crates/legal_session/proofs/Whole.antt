@@ -25,7 +25,8 @@ use Rattle.standby_core.specs.Scans.{is_whole}
 use Rattle.legal_session.specs.AbstractStandby.{AbstractScan, GivesRows, World, log_origin}
 use Rattle.legal_session.specs.WholeScans.{FollowIf, GivesPages, PagesAreRows, joined, joined_with}
 use Rattle.legal_session.proofs.Facts.{IsGood, LogLaws, legal_log, table_shown}
-use Rattle.legal_session.proofs.Placed.{all_from, is_from, none_among, none_past, none_there, split_rows}
+use Rattle.legal_session.proofs.Placed.{all_from, is_from, none_among, none_past, split_rows}
+use Rattle.row_model.proofs.Shown.{none_there}
 
 -- a row before pages that are put together
 row_before :

@@ -1,5 +1,6 @@
 -- What an archive of log segments gives, and the folder of a base backup.
-use Rattle.std.specs.Prelude.{ℕ, ◌≡◌, ◌≤◌, List, length, take, drop, All, ◌<◌, Option, None, Some, Result, IfOk, IfSome}
+use Rattle.std.specs.Prelude.{ℕ, ◌≡◌, ◌≤◌, List, length, take, drop, Option, None, Some, Result, IfOk, IfSome}
+use Rattle.pg_types.specs.Bytes.{AreBytes}
 use Rattle.pg_types.specs.declared.fail.Fail.{Fail}
 
 -- what a read of a file with these contents gives from `at` on: as many bytes as stand there, at most the buffer's
@@ -18,10 +19,6 @@ FetchesFile (Some contents) at buffer answer = (count : ℕ) × (answer ≡ Some
 abbrev pub Fetches : Option (List ℕ → Option (List ℕ)) → List ℕ → ℕ → List ℕ → Result (Option ℕ) Fail → Type 0
 Fetches None name at buffer answer = Unit {0}
 Fetches (Some files) name at buffer answer = IfOk answer (FetchesFile (files name) at buffer)
-
--- each number is a byte
-abbrev pub AreBytes : List ℕ → Type 0
-AreBytes bytes = All (λ byte. byte < 256) bytes
 
 -- where the files are told, the contents of each are bytes
 abbrev pub HaveBytes : Option (List ℕ → Option (List ℕ)) → Type 0

@@ -2,7 +2,8 @@
 use Rattle.std.proofs.Common.{ℕ, List, [], ◌∷◌, Bool, true, false, cond, Some, IfSome}
 use Rattle.std.specs.Prelude.{map}
 use Rattle.std.specs.Str.{bytes_eq}
-use Rattle.outside.specs.Archive.{AreBytes, HaveBytes}
+use Rattle.pg_types.specs.Bytes.{AreBytes}
+use Rattle.outside.specs.Archive.{HaveBytes}
 use Rattle.outside.specs.Memory.{file_named}
 use Rattle.outside.specs.declared.memory_files.SteadyFiles.{SteadyFiles}
 use Rattle.outside.specs.declared.stored.StoredFile.{StoredFile}

@@ -2,7 +2,7 @@
 -- them.
 use Rattle.std.specs.Prelude.{ℕ, ◌≡◌, ◌+◌, ◌<◌, ◌≤◌, ◌^◌, List, [], ◌++◌, length, take, Option, None, Some, Result, Ok, Err, IfSome}
 use Rattle.pg_types.specs.declared.fail.Fail.{Fail}
-use Rattle.outside.specs.Archive.{AreBytes}
+use Rattle.pg_types.specs.Bytes.{AreBytes}
 
 -- no more bytes than these are read from a source
 abbrev pub IsTaken : ℕ → Type 0

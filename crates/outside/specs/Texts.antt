@@ -1,7 +1,7 @@
 -- A text in memory of which some bytes were read.
 use Rattle.std.proofs.Common.{ℕ, ◌^◌, ◌≤◌, ◌<◌, List, drop, Some, arith}
 use Rattle.std.proofs.lemmas.List.Elements.{All-drop}
-use Rattle.outside.specs.Archive.{AreBytes}
+use Rattle.pg_types.specs.Bytes.{AreBytes}
 use Rattle.outside.specs.Source.{HasBytes, IsTaken}
 
 pub read_within : (read all : ℕ) → read ≤ all → all ≤ 2 ^ 62 → IsTaken read

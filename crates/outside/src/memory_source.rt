@@ -1,5 +1,5 @@
 ghost use Rattle.std.specs.Prelude.{◌≡◌, ◌≢◌, ◌≤◌, ◌<◌, ◌^◌, ◌+◌, drop, length, take, min, IfOk, IsOk, Some, Err};
-ghost use Rattle.outside.specs.Archive.{AreBytes};
+ghost use Rattle.pg_types.specs.Bytes.{AreBytes};
 ghost use Rattle.outside.specs.Faults.{HasCause, counted};
 ghost use Rattle.outside.specs.Plan.{FollowsPlan};
 ghost use Rattle.outside.specs.Source.{Counts, Gives, GivesFront};

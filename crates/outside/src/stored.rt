@@ -1,4 +1,4 @@
-ghost use Rattle.outside.specs.Archive.{AreBytes};
+ghost use Rattle.pg_types.specs.Bytes.{AreBytes};
 
 use pg_types::Bytes;
 

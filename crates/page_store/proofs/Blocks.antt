@@ -67,13 +67,13 @@ slice_get-extended_past pages n block h =
     ]
 
 -- a test of a block's place
-at-here : (tag : Tag) → is_at tag tag.table tag.block ≡ true
+pub at-here : (tag : Tag) → is_at tag tag.table tag.block ≡ true
 at-here tag = grind (arith, nat_tests)
 
-at-other_table : (tag : Tag) (t b : ℕ) → t ≢ tag.table → is_at tag t b ≡ false
+pub at-other_table : (tag : Tag) (t b : ℕ) → t ≢ tag.table → is_at tag t b ≡ false
 at-other_table tag t b n = grind (arith, nat_tests)
 
-at-other_block : (tag : Tag) (t b : ℕ) → b ≢ tag.block → is_at tag t b ≡ false
+pub at-other_block : (tag : Tag) (t b : ℕ) → b ≢ tag.block → is_at tag t b ≡ false
 at-other_block tag t b n = grind (arith, nat_tests)
 
 pub with_block-here : (blocks : Blocks) (tag : Tag) (bytes : List ℕ) → with_block blocks tag bytes tag.table tag.block ≡ Some bytes

@@ -1,3 +1,5 @@
+pub mod Bytes
+pub mod Locators
 mod Hex
 mod Segments
 mod Slashes

@@ -3,14 +3,11 @@ use Rattle.std.proofs.Common.{◌/◌, ◌%◌, ◌≡◌, ℕ, zero, suc, ◌+�
 use Rattle.std.proofs.Math.Nat.{add-mul-div_left, div-div-eq-div-mul, pow-suc, div-eq_of_lt}
 use Rattle.std.proofs.lemmas.List.{drop-drop, take-append-drop}
 use Rattle.std.proofs.lemmas.List.Elements.{All-head, All-tail, All-drop}
-use Rattle.std.specs.List.{All}
 use Rattle.std.specs.Int.{byte_at, bytes_low_first}
 use Rattle.byteorder.specs.Endian.{little_bytes, little_number, little_from}
 use Rattle.byteorder.specs.Numbers.{little_from-cons, little_number-reads_back}
+use Rattle.pg_types.specs.Bytes.{AreBytes}
 use Rattle.pg_types.specs.Numbers.{number_at}
-
-abbrev pub AreBytes : List ℕ → Type 0
-AreBytes bytes = All (λ byte. byte < 256) bytes
 
 -- a byte of a number, without the lowest byte
 byte_at-above : (k y z : ℕ) → y < 256 → byte_at (suc k) (y + 256 * z) ≡ byte_at k z

@@ -6,7 +6,7 @@ use Rattle.std.proofs.lemmas.Result.{IfOk-at_ok}
 use Rattle.wal_record.specs.declared.types.PrevRule.{PrevRule}
 use Rattle.wal_record.specs.declared.types.RecordFault.{RecordFault}
 use Rattle.wal_record.specs.Decoded.{decoded, head_of}
-use Rattle.wal_record.specs.Spelling.{AreBytes}
+use Rattle.pg_types.specs.Bytes.{AreBytes}
 use Rattle.wal_reader.specs.declared.types.NoRecord.TheVariants.{End, Compressed, TooLong}
 use Rattle.wal_reader.specs.declared.types.EndWhy.TheVariants.{Layout}
 use Rattle.wal_reader.specs.Halt.{Halt, Stops, GivesUp}

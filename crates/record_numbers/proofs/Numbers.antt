@@ -1,11 +1,9 @@
 -- Numbers that are read of bytes, and what holds of the value of a result.
 use Rattle.std.proofs.Common.{◌≡◌, ℕ, ◌^◌, ◌<◌, List, Result, Ok, Err, IfOk, refl}
-use Rattle.std.proofs.lemmas.List.Elements.{All-drop, All-take}
-use Rattle.std.specs.Prelude.{drop, take, slice_index}
+use Rattle.std.specs.Prelude.{slice_index}
 use Rattle.pg_types.specs.Numbers.{number_at}
-use Rattle.wal_record.specs.Spelling.{AreBytes}
-use Rattle.wal_record.proofs.SpelledHeader.{number-fits}
-use Rattle.wal_record.proofs.SpelledParts.{byte-below}
+use Rattle.pg_types.specs.Bytes.{AreBytes}
+use Rattle.pg_types.proofs.Bytes.{byte-below, number-fits}
 
 -- numbers of one, two and four bytes
 pub one-fits : (bytes : List ℕ) (at : ℕ) → AreBytes bytes → slice_index bytes at < 2 ^ 8
@@ -16,13 +14,6 @@ two-fits bytes at all = number-fits 2 bytes at all
 
 pub four-fits : (bytes : List ℕ) (at : ℕ) → AreBytes bytes → number_at 4 bytes at < 2 ^ 32
 four-fits bytes at all = number-fits 4 bytes at all
-
--- parts of bytes
-pub drop-are : (n : ℕ) (bytes : List ℕ) → AreBytes bytes → AreBytes (drop n bytes)
-drop-are n bytes all = All-drop (λ b. b < 256) n bytes all
-
-pub take-are : (n : ℕ) (bytes : List ℕ) → AreBytes bytes → AreBytes (take n bytes)
-take-are n bytes all = All-take (λ b. b < 256) n bytes all
 
 -- what holds of each value that a result may be
 pub if_ok-from : {A E : Type 0} (r : Result A E) (P : A → Type 0) → ((x : A) → r ≡ Ok x → P x) → IfOk r P

@@ -1,6 +1,6 @@
 -- What is typed of a record of bytes fits.
 use Rattle.std.proofs.Common.{◌≡◌, ℕ, zero, suc, ◌+◌, ◌^◌, ◌<◌, ◌==◌, arith, Bool, true, false, cond, List, [], ◌∷◌, All, Option, Some, None, Result, Ok, Err, IfOk, refl}
-use Rattle.std.specs.Prelude.{drop, take, option_map, IfSome, length, slice_index}
+use Rattle.std.specs.Prelude.{drop, take, option_map, IfSome, length, nat_lt, slice_index}
 use Rattle.std.proofs.lemmas.Bool.{cond_both, false≢true}
 use Rattle.std.proofs.lemmas.List.Elements.{All-append, All-cons, All-nil}
 use Rattle.std.proofs.lemmas.Result.{IfOk-at_ok}
@@ -8,13 +8,14 @@ use Rattle.pg_types.specs.Numbers.{number_at}
 use Rattle.pg_types.specs.declared.names.Locator.{Locator}
 use Rattle.pg_types.specs.declared.names.Lsn.{Lsn}
 use Rattle.wal_record.specs.declared.types.RecordHead.{RecordHead}
+use Rattle.wal_record.specs.Parts.{number_from}
 use Rattle.wal_record.specs.Record.{Block, Image, Record, block_by_id}
-use Rattle.wal_record.specs.Spelling.{AreBytes}
+use Rattle.pg_types.specs.Bytes.{AreBytes}
 use Rattle.wal_bodies.specs.declared.types.NewTuple.{NewTuple}
 use Rattle.wal_bodies.specs.declared.types.RecBlock.{RecBlock}
 use Rattle.wal_bodies.specs.declared.types.RecKind.{RecKind}
 use Rattle.wal_bodies.specs.declared.types.RecKind.TheVariants.{Checkpoint, BackupEnd, Parameters, FullPageWrites, Images, Overwrite, Ended, Running, Insert, Delete, Update, Confirm, Lock, MultiInsert, LockUpdated, Other}
-use Rattle.wal_bodies.specs.Fields.{◌>>=◌, xid_at, if_main, main_block, needed, number_from}
+use Rattle.wal_bodies.specs.Fields.{◌>>=◌, xid_at, if_main, main_block, needed, needed_number}
 use Rattle.wal_bodies.specs.Kinds.{backup_end, checkpoint, database_kind, ended, kind_of, later, overwrite, page_writes, parameters, parts_by, running, standby_kind, time_from, xact_kind, xinfo_from, xlog_kind}
 use Rattle.wal_bodies.specs.HeapKinds.{confirm, delete, heap2_kind, heap_kind, in_place, insert, lock, lock_updated, multi_insert, multi_insert_of, update}
 use Rattle.wal_bodies.specs.Tuples.{in_data, insert_tuples, inserted, is_applied, length_from, listed_at, listed_from, even_from, multi_tuples, no_tuples, replaced, tuple_with, tuples_of, update_tuples, updated}
@@ -22,7 +23,8 @@ use Rattle.wal_bodies.specs.Typed.{block_with, blocks_from, blocks_of, formed, i
 use Rattle.wal_record.specs.OfBytes.{IsBlockOfBytes, IsOfBytes}
 use Rattle.record_numbers.specs.Fits.{BlockFits, ImageFits, KindFits, RecordFits, TupleFits}
 use Rattle.record_numbers.specs.Laws.{TypedFits}
-use Rattle.record_numbers.proofs.Numbers.{drop-are, four-fits, one-fits, take-are, two-fits}
+use Rattle.record_numbers.proofs.Numbers.{four-fits, one-fits, two-fits}
+use Rattle.pg_types.proofs.Bytes.{drop-are, take-are}
 
 -- The value of a result has a property, if there is one. What a refusal is does not matter, so its type stays open.
 record Has {A E : Type 0} (P : A → Type 0) (r : Result A E) : Type 0 where
@@ -223,12 +225,15 @@ replaced-fit prefix suffix bytes all = search (either, refused, whole-tuple)
 abbrev LeavesBytes : ℕ × List ℕ → Type 0
 LeavesBytes x = AreBytes x.1
 
-number-given : {E : Type 0} (n : ℕ) (bytes : List ℕ) → AreBytes bytes → Has {E = E} LeavesBytes (Ok (number_at n bytes 0, drop n bytes))
-number-given n bytes all = record { has = drop-are n bytes all }
+needed-is : {A : Type 0} (P : A → Type 0) (found : Option A) → IfSome found P → Has P (needed found)
+needed-is P None h = refused P _
+needed-is P (Some x) h = given P x h
 
-number-leaves : (n : ℕ) (bytes : List ℕ) → AreBytes bytes → Has LeavesBytes (number_from n bytes)
-unfolding number_from
-number-leaves n bytes all = search (either, refused, number-given)
+number-leaves : (n : ℕ) (bytes : List ℕ) → AreBytes bytes → Has LeavesBytes (needed_number n bytes)
+unfolding needed_number number_from
+number-leaves n bytes all =
+    needed-is LeavesBytes (number_from n bytes)
+    (cond_both (nat_lt (length bytes) n) None (Some (number_at n bytes 0, drop n bytes)) (λ found. IfSome found LeavesBytes) (λ _. tt) (λ _. drop-are n bytes all))
 
 none-given : {E : Type 0} (bytes : List ℕ) → AreBytes bytes → Has {E = E} LeavesBytes (Ok (0, bytes))
 none-given bytes all = record { has = all }
@@ -284,15 +289,11 @@ if_main-is (Some block) h =
 main-is : (id : ℕ) (source : Record) → IsOfBytes source → IfSome (main_block id source) IsBlockOfBytes
 main-is id source is = if_main-is (block_by_id id source.blocks) (by_id-is id source.blocks is.blocks)
 
-needed-is : (block : Option Block) → IfSome block IsBlockOfBytes → Has IsBlockOfBytes (needed block)
-needed-is None h = refused IsBlockOfBytes _
-needed-is (Some block) h = given IsBlockOfBytes block h
-
 -- the tuples that are read of the block that a record has to have
 in_block : (source : Record) (f : Block → _) → IsOfBytes source → ((block : Block) → AreBytes block.payload → Has (All TupleFits) (f block))
     → Has (All TupleFits) (needed (main_block 0 source) >>= f)
 in_block source f is h =
-    bound IsBlockOfBytes (All TupleFits) (needed (main_block 0 source)) f (needed-is (main_block 0 source) (main-is 0 source is)) (λ block of. h block of.payload)
+    bound IsBlockOfBytes (All TupleFits) (needed (main_block 0 source)) f (needed-is IsBlockOfBytes (main_block 0 source) (main-is 0 source is)) (λ block of. h block of.payload)
 
 insert_tuples-fit : (source : Record) → IsOfBytes source → Has (All TupleFits) (insert_tuples source)
 unfolding insert_tuples

@@ -9,7 +9,7 @@ use Rattle.wal_bodies.specs.declared.types.RecBlock.{RecBlock}
 use Rattle.wal_bodies.specs.declared.types.Rec.{Rec}
 use Rattle.wal_bodies.specs.declared.types.RecKind.{RecKind}
 use Rattle.wal_bodies.specs.declared.types.RecKind.TheVariants.{Delete, Update, Lock, LockUpdated}
-pub use Rattle.wal_record.specs.Spelling.{AreBytes}
+use Rattle.pg_types.specs.Bytes.{AreBytes}
 
 -- masks of two bytes, a place of one, and bytes behind the header
 pub record TupleFits (tuple : NewTuple) : Type 0 where

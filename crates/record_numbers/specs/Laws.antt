@@ -6,7 +6,7 @@ use Rattle.wal_record.specs.declared.types.PrevRule.{PrevRule}
 use Rattle.wal_record.specs.Decoded.{decoded}
 use Rattle.wal_record.specs.OfBytes.{IsOfBytes}
 use Rattle.wal_record.specs.Record.{Record}
-use Rattle.wal_record.specs.Spelling.{AreBytes}
+use Rattle.pg_types.specs.Bytes.{AreBytes}
 use Rattle.wal_reader.specs.Step.{Entry, step}
 use Rattle.wal_reader.specs.Told.{Told}
 use Rattle.wal_bodies.specs.declared.types.Rec.{Rec}

@@ -1,3 +1,4 @@
+pub mod Shown
 pub mod Places
 mod Prefixes
 mod WorkedIds

@@ -19,7 +19,6 @@ use Rattle.page_store.specs.Seen.{View}
 use Rattle.heap_redo.specs.Redone.{grown, redone, redone_at, redone_block, view_with, with_seen}
 use Rattle.transaction_model.specs.Transactions.{committed}
 use Rattle.heap_redo.specs.After.{after, after_change, applied, change_head, changed, changed_page, joined, put, put_listed, put_version, tuple_of, update, update_old, update_within}
-use Rattle.wal_bodies.specs.HeapKinds.{same_locator}
 use Rattle.heap_redo.specs.TupleHeads.{head_bytes, head_of, marked_mask, marked_mask2, replaced}
 use Rattle.xact_redo.specs.TransactionsOf.{kind_of, transaction_of}
 use Rattle.row_model.specs.Versions.{RowStep, Version, changed_at, version_at, with_step, with_steps}
@@ -29,10 +28,12 @@ use Rattle.row_model.specs.Locks.{is_gone, locks, since, up_to_running}
 use Rattle.row_model.specs.RowSteps.{births, births_written, block_count, count_with, deleter_of_mark, own_steps, steps_in, update_steps, version_put, version_written, versions, view_after, view_with_record, whole_steps}
 use Rattle.row_model.specs.Rows.{IsInPlaceOrder, is_row}
 use Rattle.row_model.specs.LegalSteps.{BirthStep, DeleterStep, EachStep, KeepsTo, MultixactStep, RemovalStep, Takes, Unmarked}
-use Rattle.record_numbers.specs.Fits.{AreBytes, BlockFits, KindFits, RecordFits, TupleFits}
+use Rattle.pg_types.specs.Bytes.{AreBytes}
+use Rattle.record_numbers.specs.Fits.{BlockFits, KindFits, RecordFits, TupleFits}
 use Rattle.row_model.specs.LegalRows.{AnewRule, BlocksRule, CheckpointRule, ImageRule, LegalAlong, LegalTable, LockRule, OnlineLocks, TableRule, are_apart, is_redo, is_redo_own, renews_first}
 use Rattle.row_model.proofs.WorkedIds.{first_live, second_live, worked_legal}
 use Rattle.row_model.specs.WorkedRows.{AreRowsAfter, IsWorkedRows, first_row, first_tuple, first_values, second_row, second_tuple, backup_end, commit_of_700, commit_of_701, insert_by_700, nothing_runs, online_checkpoint, update_by_701, worked_start, worked_block, worked_first, worked_log, worked_origin, worked_table}
+use Rattle.pg_types.specs.Locators.{same_locator}
 
 -- what a record keeps to in one of its blocks
 abbrev IsBlockRule : LogOrigin → Locator → List Rec → List Version → List Version → RecBlock → Type 0

@@ -11,7 +11,6 @@ use Rattle.wal_bodies.specs.declared.types.RecBlock.{RecBlock}
 use Rattle.wal_bodies.specs.declared.types.Rec.{Rec}
 use Rattle.wal_bodies.specs.declared.types.RecKind.{RecKind}
 use Rattle.wal_bodies.specs.declared.types.RecKind.TheVariants.{Checkpoint}
-use Rattle.wal_bodies.specs.HeapKinds.{same_locator}
 use Rattle.heap_redo.specs.After.{applied}
 use Rattle.page_store.specs.Seen.{View}
 use Rattle.heap_redo.specs.Redone.{is_anew, is_left}
@@ -25,6 +24,7 @@ use Rattle.row_model.specs.Locks.{UnderLock, changes_block, changes_table, drops
 use Rattle.row_model.specs.RowSteps.{cut_of, items_in, versions, view_after}
 use Rattle.row_model.specs.Shows.{ShowsBlock}
 use Rattle.row_model.specs.LegalSteps.{BirthStep, DeleterStep, KeepsTo, MultixactStep, RemovalStep, horizon_of}
+use Rattle.pg_types.specs.Locators.{same_locator}
 
 -- Blocks.
 

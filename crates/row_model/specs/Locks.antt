@@ -6,11 +6,11 @@ use Rattle.pg_types.specs.declared.names.Locator.{Locator}
 use Rattle.wal_bodies.specs.declared.types.RecBlock.{RecBlock}
 use Rattle.wal_bodies.specs.declared.types.Rec.{Rec}
 use Rattle.wal_bodies.specs.declared.types.RecKind.{RecKind}
-use Rattle.wal_bodies.specs.HeapKinds.{same_locator}
 use Rattle.heap_redo.specs.Redone.{is_left}
 use Rattle.transaction_model.specs.Transactions.{Kind, Commit, Abort, Assignment, Running, Shutdown, Online, Other, ends}
 use Rattle.xact_redo.specs.TransactionsOf.{kind_of}
 use Rattle.row_model.specs.Origins.{LogOrigin, IsLive, IsSameTree}
+use Rattle.pg_types.specs.Locators.{same_locator}
 
 -- the records that start at a position or past it
 unfoldable pub since : ℕ → List Rec → List Rec

@@ -11,7 +11,6 @@ use Rattle.wal_bodies.specs.declared.types.RecKind.{RecKind}
 use Rattle.wal_bodies.specs.declared.types.RecKind.TheVariants.{Insert, Delete, Update, Lock, MultiInsert, LockUpdated}
 use Rattle.pg_types.specs.Numbers.{has_bits}
 use Rattle.heap_redo.specs.TupleHeads.{marked_mask}
-use Rattle.wal_bodies.specs.HeapKinds.{same_locator}
 use Rattle.heap_redo.specs.After.{applied, joined, number_of, page_of_image, tuple_of, user_data}
 use Rattle.heap_tuple.specs.Tuple.{is_lock_only}
 use Rattle.heap_tuple.specs.declared.tuple_view.MaxOf.{MaxOf}
@@ -23,6 +22,7 @@ use Rattle.page_store.specs.Seen.{Seen, absent, View}
 use Rattle.heap_redo.specs.Redone.{is_left, redone, view_outcome}
 use Rattle.row_model.specs.Versions.{Version, RowStep, Born, Deleter, Undone, version_at, with_steps}
 use Rattle.row_model.specs.Origins.{LogOrigin}
+use Rattle.pg_types.specs.Locators.{same_locator}
 
 -- the deleter that a tuple shows once a record marked it with this xmax and these bits: none for a lock alone
 -- (XLHL_XMAX_LOCK_ONLY and the lock's strength; XLHL_XMAX_IS_MULTI)

@@ -23,6 +23,10 @@ ShowsSeen o log vs count block (seen_page lsn items) = (block < count) × ShowsB
 abbrev pub count_at : ℕ → ℕ → List Version → ℕ
 count_at block line vs = sum_by (λ v. if is_at block line v then 1 else 0) vs
 
+-- no place has two
+abbrev pub AreApart : List Version → Type 0
+AreApart vs = (block line : ℕ) → count_at block line vs ≤ 1
+
 -- a multixact that deletes a version was made, and the inserter of a version that is marked frozen counts
 pub record IsSound (o : LogOrigin) (log : List Rec) (v : Version) : Type 0 where
   pub made : WasMade log v.deleter
@@ -36,7 +40,7 @@ IsLost o log v = v.holds ≡ false → is_row (multixacts log) (committed_in o l
 -- its header of 23 bytes, and is a row only where it holds its place
 pub record ShowsTable (o : LogOrigin) (log : List Rec) (vs : List Version) (count : ℕ) (blocks : ℕ → Seen) : Type 0 where
   pub shows : (block : ℕ) → ShowsSeen o log vs count block (blocks block)
-  pub apart : (block line : ℕ) → count_at block line vs ≤ 1
+  pub apart : AreApart vs
   pub sound : (block line : ℕ) (v : Version) → version_at block line vs ≡ Some v → IsSound o log v
   pub behind_header : (block line : ℕ) (v : Version) → version_at block line vs ≡ Some v → 23 ≤ hoff_of v.tuple
   pub lost : All (IsLost o log) vs

@@ -7,11 +7,11 @@ use Rattle.std.proofs.lemmas.List.Elements.{filter-append}
 use Rattle.heap_page.specs.Item.{Item}
 use Rattle.page_store.specs.Seen.{Seen, absent, bad_block, seen_page}
 use Rattle.row_model.specs.Versions.{Version, is_at, version_at}
-use Rattle.row_model.specs.Shown.{count_at}
+use Rattle.row_model.specs.Shown.{count_at, AreApart}
 use Rattle.row_model.specs.Rows.{IsBefore, IsBeforeAll, IsInPlaceOrder}
 use Rattle.row_pages.specs.Pages.{is_in_block}
 use Rattle.row_pages.proofs.Each.{Each, Stands, each-weaker, each-append, filter_all, filter_none}
-use Rattle.row_pages.proofs.Places.{AreApart, found_at, found_holds, at_place, count_head, count_rest}
+use Rattle.row_pages.proofs.Places.{found_at, found_holds, at_place, count_head, count_rest}
 
 -- a version that passes a test
 abbrev pub row_in : (Version → Bool) → Option Version → List Version

@@ -5,9 +5,10 @@ use Rattle.std.proofs.lemmas.Bool.{cases_Bool}
 use Rattle.std.proofs.lemmas.List.Sums.{sum_by-append}
 use Rattle.std.proofs.lemmas.List.Sorted.{IsPermutation-refl, IsPermutation-sym, IsPermutation-trans, IsPermutation-cons, IsPermutation-middle}
 use Rattle.row_model.specs.Versions.{Version, is_at, version_at}
-use Rattle.row_model.specs.Shown.{count_at}
+use Rattle.row_model.specs.Shown.{count_at, AreApart}
 use Rattle.row_pages.proofs.Each.{Each, Stands, each-without}
-use Rattle.row_pages.proofs.Places.{AreApart, first_of_two, nothing_is_some, the_same, from_place, at_head, at_rest, at_none, version_at-append, none_counted, count_head, count_rest, apart_rest}
+use Rattle.row_pages.proofs.Places.{first_of_two, nothing_is_some, the_same, from_place, at_head, at_rest, at_none, version_at-append, none_counted, count_head, count_rest}
+use Rattle.row_model.proofs.Shown.{apart_rest}
 
 -- the same version stands at each place
 abbrev pub HaveSame : List Version → List Version → Type 0

@@ -4,7 +4,7 @@ use Rattle.std.specs.List.{filter}
 use Rattle.std.proofs.lemmas.Bool.{cases_Bool, cond_both, and_left, and_parts, and_right, and_from, eqb-true, eq-eqb, ne_eqb}
 use Rattle.std.proofs.lemmas.List.Sums.{sum_by-cons}
 use Rattle.row_model.specs.Versions.{Version, is_at, version_at}
-use Rattle.row_model.specs.Shown.{count_at}
+use Rattle.row_model.specs.Shown.{count_at, AreApart}
 use Rattle.row_pages.proofs.Each.{Each}
 
 -- a version where it passes a test
@@ -125,10 +125,6 @@ count_rest block line v vs e =
     sum_by-cons (λ (u : Version). cond (is_at block line u) 1 0) v vs
     ∙ ap (λ (t : Bool). cond t 1 0 + count_at block line vs) e
 
--- no place has two
-abbrev pub AreApart : List Version → Type 0
-AreApart vs = (block line : ℕ) → count_at block line vs ≤ 1
-
 pub none_counted : (block line : ℕ) (vs : List Version) → count_at block line vs ≡ 0 → version_at block line vs ≡ None
 none_counted block line [] e = at_none block line
 none_counted block line (v ∷ vs) e =
@@ -152,11 +148,6 @@ count-filter block line p (v ∷ vs) =
 
 pub apart-filter : (p : Version → Bool) (vs : List Version) → AreApart vs → AreApart (filter p vs)
 apart-filter p vs apart block line = omega (arith, apart block line, count-filter block line p vs)
-
-pub apart_rest : (v : Version) (vs : List Version) → AreApart (v ∷ vs) → AreApart vs
-apart_rest v vs apart block line =
-    let once = apart block line in
-    omega (arith, sum_by-cons (λ (u : Version). cond (is_at block line u) 1 0) v vs)
 
 filtered_head :
     (block line : ℕ) (p : Version → Bool) (v : Version) (vs : List Version) → is_at block line v ≡ true

@@ -11,10 +11,11 @@ use Rattle.row_model.specs.Origins.{LogOrigin, committed_in}
 use Rattle.row_model.specs.Versions.{Version, version_at}
 use Rattle.row_model.specs.Multixacts.{multixacts}
 use Rattle.row_model.specs.Shows.{ShowsPlace}
-use Rattle.row_model.specs.Shown.{HasNone, IsSound, ShowsSeen, ShowsTable}
+use Rattle.row_model.specs.Shown.{IsSound, ShowsSeen, ShowsTable}
 use Rattle.row_pages.specs.Pages.{ReadsPlace, ReadsSeen, ReadsTable, ScanGivesRows, SeesThem, is_row_in}
 use Rattle.row_pages.proofs.SameRow.{row_same}
 use Rattle.row_pages.proofs.Rows.{scan_gives_read_holds}
+use Rattle.row_model.proofs.Shown.{none_there}
 
 module _ (origin : LogOrigin) (log : List Rec) (vs : List Version) (count : ℕ) (blocks : ℕ → Seen) (columns : List Column)
     (sees : List ℕ → Result Bool Unknown) (table : ShowsTable origin log vs count blocks) (seen : SeesThem origin log sees) where
@@ -37,16 +38,11 @@ module _ (origin : LogOrigin) (log : List Rec) (vs : List Version) (count : ℕ)
       place_read (version_at block line vs) (numbered items line) (shows line)
       (λ v e. (table.sound block line v e, table.behind_header block line v e))
 
-  none_past : (block : ℕ) (page : Seen) → count ≤ block → ShowsSeen origin log vs count block page → HasNone vs block
-  none_past block absent past (end, none) = none
-  none_past block bad_block past shows = absurd shows
-  none_past block (seen_page lsn items) past (before, shows) = absurd (omega arith)
-
   table_read : ReadsTable columns sees (is_row_in origin log) vs count blocks
   table_read =
       record {
         each = λ block below. seen_read block (blocks block) below (table.shows block);
-        past = λ block past. none_past block (blocks block) past (table.shows block);
+        past = λ block past. none_there origin log vs count block (blocks block) past (table.shows block);
         apart = table.apart;
         lost = table.lost;
       }

@@ -12,7 +12,7 @@ use Rattle.row_model.specs.Origins.{LogOrigin, committed_in}
 use Rattle.row_model.specs.Multixacts.{Made, multixacts}
 use Rattle.row_model.specs.Rows.{IsRows, is_row}
 use Rattle.row_model.specs.Shows.{Shows}
-use Rattle.row_model.specs.Shown.{HasNone, IsSound, ShowsTable, count_at}
+use Rattle.row_model.specs.Shown.{HasNone, IsSound, ShowsTable, AreApart}
 
 -- the values of rows, one after the other, up to the first that is refused
 unfoldable pub rows_of_versions : List Column → List Version → BlockRows
@@ -62,7 +62,7 @@ ReadsSeen columns sees test vs block (seen_page lsn items) =
 pub record ReadsTable (columns : List Column) (sees : List ℕ → Result Bool Unknown) (test : Version → Bool) (vs : List Version) (count : ℕ) (blocks : ℕ → Seen) : Type 0 where
   pub each : (block : ℕ) → block < count → ReadsSeen columns sees test vs block (blocks block)
   pub past : (block : ℕ) → count ≤ block → HasNone vs block
-  pub apart : (block line : ℕ) → count_at block line vs ≤ 1
+  pub apart : AreApart vs
   pub lost : All (λ (v : Version). v.holds ≡ false → test v ≡ false) vs
 
 -- a scan of blocks in which it reads some versions gives the rows among them, block by block

@@ -11,15 +11,12 @@ use Rattle.row_model.specs.Versions.{Version, Always, By, FreezePlan, RowStep, B
 use Rattle.row_model.specs.Origins.{LogOrigin, committed_in}
 use Rattle.row_model.specs.Multixacts.{WasMade}
 use Rattle.row_model.specs.Rows.{counts}
-use Rattle.row_model.specs.Shown.{IsLost, IsSound, count_at}
+use Rattle.row_model.specs.Shown.{IsLost, IsSound, count_at, AreApart}
 use Rattle.row_model.specs.LegalSteps.{IfVersion, MayBeRemoved, MayUndo, NeverCommitted, OwnDeleted, PlanRule, WasDeleted, WasUndone}
 use Rattle.row_redo.proofs.Later.{TakenBack, FailedBy, WasDeletedBy, WhyLost, lost_later, lost_no_row, sound_later, live_uncommitted}
 use Rattle.row_redo.proofs.Places.{KeepsPlace, put, dropped, still_at, at_changed, at_removed, found_there, one_place}
 use Rattle.row_redo.proofs.Rules.{StepRule, StepsRule}
-
--- each place has at most one version
-abbrev pub AreApart : List Version → Type 0
-AreApart vs = (block line : ℕ) → count_at block line vs ≤ 1
+use Rattle.row_model.proofs.Shown.{apart_rest}
 
 -- each is sound
 abbrev pub AreSound : LogOrigin → List Rec → List Version → Type 0
@@ -106,7 +103,7 @@ apart_changed b l f keeps vs apart block line =
     let e = count_changed b l f keeps block line vs in
     let h = apart block line in omega arith
 
-at_same_place : (block line b l : ℕ) (vs : List Version) → ((b == block) && (l == line)) ≡ true → version_at b l vs ≡ None → version_at block line vs ≡ None
+pub at_same_place : (block line b l : ℕ) (vs : List Version) → ((b == block) && (l == line)) ≡ true → version_at b l vs ≡ None → version_at block line vs ≡ None
 at_same_place block line b l vs h e =
     let (p, q) = and_parts (b == block) (l == line) h in
     subst (λ (n : ℕ). version_at block n vs ≡ None) (eqb-true l line q)
@@ -195,7 +192,7 @@ frozen_sound from log horizon plan w rule made sound =
           (λ thawed. let (x, by, done, covered) = rule.covered thawed h in (x, by, done));
     }
 
-if_version : (x : Option Version) (Rule : Version → Type 0) (w : Version) → x ≡ Some w → IfVersion x Rule → Rule w
+pub if_version : (x : Option Version) (Rule : Version → Type 0) (w : Version) → x ≡ Some w → IfVersion x Rule → Rule w
 if_version None Rule w e rule = cc
 if_version (Some v) Rule w e rule = let same : v ≡ w = cc in subst Rule same rule
 
@@ -246,11 +243,6 @@ unfolding changed_at
 lost_changed from log b l f keeps [] lost = tt
 lost_changed from log b l f keeps (v ∷ vs) (first, rest) =
     (lost_one from log b l f keeps v (is_at b l v) refl first, lost_changed from log b l f keeps vs rest)
-
-apart_rest : (v : Version) (vs : List Version) → AreApart (v ∷ vs) → AreApart vs
-apart_rest v vs apart block line =
-    let whole = apart block line in
-    let parts = count_first block line v vs in omega (arith, whole, parts)
 
 removed_one :
     (from : LogOrigin) (log : List Rec) (b l horizon : ℕ) (v : Version) (vs : List Version) (t : Bool) → is_at b l v ≡ t

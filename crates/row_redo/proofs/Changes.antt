@@ -17,7 +17,8 @@ use Rattle.heap_redo.specs.After.{BlockRefusal, no_tuple, ◌>>=◌, applied, pu
 use Rattle.row_model.specs.Versions.{Version, RowStep, Born, Deleter, Undone, version_at, with_step, with_steps}
 use Rattle.row_model.specs.RowSteps.{deleter_of_mark, births_written, births, version_written, version_put, values_of, update_steps, own_steps}
 use Rattle.row_model.specs.Shows.{ShowsPlace, ShowsBlock}
-use Rattle.record_numbers.specs.Fits.{AreBytes, TupleFits, BlockFits, KindFits, RecordFits}
+use Rattle.pg_types.specs.Bytes.{AreBytes}
+use Rattle.record_numbers.specs.Fits.{TupleFits, BlockFits, KindFits, RecordFits}
 use Rattle.row_redo.proofs.Rules.{StepsRule}
 use Rattle.row_redo.proofs.Fitting.{TuplesFit}
 use Rattle.row_redo.proofs.Heads.{head-bytes, same-values, Marks, marks-marked, marks-replaced, marks-locked, marks-deleted}

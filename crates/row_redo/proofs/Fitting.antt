@@ -2,7 +2,7 @@
 use Rattle.std.specs.Prelude.{◌≡◌, ℕ, List}
 use Rattle.heap_tuple.specs.Tuple.{IsTuple}
 use Rattle.heap_page.specs.Item.{Item, normal, numbered}
-use Rattle.record_numbers.specs.Fits.{AreBytes}
+use Rattle.pg_types.specs.Bytes.{AreBytes}
 
 -- the tuples of these lines are bytes and keep the tuple rule
 abbrev pub TuplesFit : List Item → Type 0

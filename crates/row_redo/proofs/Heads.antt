@@ -1,45 +1,19 @@
 -- The bytes of a tuple whose header changes, and the fields that they show.
-use Rattle.std.proofs.Common.{◌≡◌, ℕ, zero, suc, ◌+◌, ◌-◌, ◌/◌, ◌%◌, ◌^◌, ◌<◌, ◌≤◌, Bool, true, false, List, ◌∷◌, ◌++◌, length, drop, slice_index, inl, inr, refl, sym, ap, ◌∙◌, arith, if◌then◌else◌}
-use Rattle.std.specs.Int.{byte_at, bytes_low_first}
-use Rattle.std.proofs.lemmas.Bool.{cases_lt}
+use Rattle.std.proofs.Common.{◌≡◌, ℕ, ◌+◌, ◌-◌, ◌/◌, ◌%◌, ◌^◌, ◌<◌, ◌≤◌, Bool, true, false, List, ◌∷◌, ◌++◌, length, drop, slice_index, refl, sym, ap, ◌∙◌, arith, if◌then◌else◌}
 use Rattle.std.proofs.lemmas.Bool.Decides.{nat_tests}
-use Rattle.std.proofs.lemmas.List.{get_or_past, get_or-drop, drop_more, drop-drop}
-use Rattle.std.proofs.lemmas.List.Elements.{All-append, All-cons, All-nil, All-drop}
+use Rattle.std.proofs.lemmas.List.{get_or-drop, drop_more, drop-drop}
+use Rattle.std.proofs.lemmas.List.Elements.{All-cons}
 use Rattle.std.proofs.lemmas.Nat.{or_lt, and_le_l}
 use Rattle.byteorder.specs.Endian.{little_bytes}
-use Rattle.byteorder.specs.Numbers.{little_number-reads_back, little_from-lt}
+use Rattle.byteorder.specs.Numbers.{little_number-reads_back}
 use Rattle.pg_types.specs.Numbers.{number_at, has_bits}
 use Rattle.heap_tuple.specs.Tuple.{IsTuple, is_tuple, is_tuple_head, xmin_of, xmax_of, infomask_of, infomask2_of, hoff_of, is_lock_only}
 use Rattle.heap_tuple.proofs.SameTuples.{same_hoff}
 use Rattle.heap_redo.specs.TupleHeads.{Head, head_of, head_bytes, marked_mask, marked, pointing_to, hot, pointing_after_delete, deleted, replaced, locked}
 use Rattle.heap_redo.specs.After.{user_data}
-use Rattle.record_numbers.specs.Fits.{AreBytes}
+use Rattle.pg_types.specs.Bytes.{AreBytes}
 use Rattle.row_redo.proofs.Bits.{mark-columns, mark2-small, with-columns, without-columns}
-
--- bytes
-pub byte-below : (bytes : List ℕ) → AreBytes bytes → (k : ℕ) → slice_index bytes k < 256
-byte-below bytes h k = elim (cases_lt k (length bytes)) [
-  | inl below ↦ h k 0 below
-  | inr past ↦ let e = get_or_past bytes k 0 past in omega (arith, e)
-]
-
-byte-at : (k x : ℕ) → byte_at k x < 256
-byte-at zero x = omega arith
-byte-at (suc k) x = omega arith
-
-number-bytes : (i n x : ℕ) → AreBytes (bytes_low_first i n x)
-number-bytes i zero x = All-nil (λ (byte : ℕ). byte < 256)
-number-bytes i (suc n) x =
-    All-cons (λ (byte : ℕ). byte < 256) (byte_at i x) (bytes_low_first (suc i) n x) (byte-at i x) (number-bytes (suc i) n x)
-
-both-bytes : (xs ys : List ℕ) → AreBytes xs → AreBytes ys → AreBytes (xs ++ ys)
-both-bytes xs ys h k = All-append (λ (byte : ℕ). byte < 256) xs ys h k
-
--- a number of bytes fits
-number-below : (n : ℕ) (bytes : List ℕ) (at : ℕ) → AreBytes bytes → number_at n bytes at < 256 ^ n
-unfolding number_at
-number-below n bytes at h =
-    little_from-lt 0 n (drop at bytes) (byte-below (drop at bytes) (All-drop (λ (byte : ℕ). byte < 256) at bytes h))
+use Rattle.pg_types.proofs.Bytes.{both-bytes, byte-below, number-bytes, number-fits}
 
 -- the fields of a header fit their bytes
 pub record HeadFits (head : Head) : Type 0 where
@@ -52,10 +26,10 @@ pub record HeadFits (head : Head) : Type 0 where
 pub head-fits : (tuple : List ℕ) → AreBytes tuple → HeadFits (head_of tuple)
 unfolding head_of
 head-fits tuple h = record {
-  xmin = number-below 4 tuple 0 h;
-  xmax = number-below 4 tuple 4 h;
-  mask2 = number-below 2 tuple 18 h;
-  mask = number-below 2 tuple 20 h;
+  xmin = number-fits 4 tuple 0 h;
+  xmax = number-fits 4 tuple 4 h;
+  mask2 = number-fits 2 tuple 18 h;
+  mask = number-fits 2 tuple 20 h;
   hoff = byte-below tuple h 22;
 }
 
@@ -89,14 +63,14 @@ head-bytes head rest small h =
     let l6 = little_bytes 4 head.cid ++ l5 in
     let l7 = little_bytes 4 head.xmax ++ l6 in
     let h0 = All-cons (λ (byte : ℕ). byte < 256) head.hoff rest small h in
-    let h1 = both-bytes (little_bytes 2 head.mask) l0 (number-bytes 0 2 head.mask) h0 in
-    let h2 = both-bytes (little_bytes 2 head.mask2) l1 (number-bytes 0 2 head.mask2) h1 in
-    let h3 = both-bytes (little_bytes 2 head.ctid_line) l2 (number-bytes 0 2 head.ctid_line) h2 in
-    let h4 = both-bytes (little_bytes 2 (head.ctid_block % 65536)) l3 (number-bytes 0 2 (head.ctid_block % 65536)) h3 in
-    let h5 = both-bytes (little_bytes 2 (head.ctid_block / 65536)) l4 (number-bytes 0 2 (head.ctid_block / 65536)) h4 in
-    let h6 = both-bytes (little_bytes 4 head.cid) l5 (number-bytes 0 4 head.cid) h5 in
-    let h7 = both-bytes (little_bytes 4 head.xmax) l6 (number-bytes 0 4 head.xmax) h6 in
-    both-bytes (little_bytes 4 head.xmin) l7 (number-bytes 0 4 head.xmin) h7
+    let h1 = both-bytes (little_bytes 2 head.mask) l0 (number-bytes 2 head.mask) h0 in
+    let h2 = both-bytes (little_bytes 2 head.mask2) l1 (number-bytes 2 head.mask2) h1 in
+    let h3 = both-bytes (little_bytes 2 head.ctid_line) l2 (number-bytes 2 head.ctid_line) h2 in
+    let h4 = both-bytes (little_bytes 2 (head.ctid_block % 65536)) l3 (number-bytes 2 (head.ctid_block % 65536)) h3 in
+    let h5 = both-bytes (little_bytes 2 (head.ctid_block / 65536)) l4 (number-bytes 2 (head.ctid_block / 65536)) h4 in
+    let h6 = both-bytes (little_bytes 4 head.cid) l5 (number-bytes 4 head.cid) h5 in
+    let h7 = both-bytes (little_bytes 4 head.xmax) l6 (number-bytes 4 head.xmax) h6 in
+    both-bytes (little_bytes 4 head.xmin) l7 (number-bytes 4 head.xmin) h7
 
 -- a tuple has the byte of its hoff and one more
 pub tuple-long : (tuple : List ℕ) → IsTuple tuple → (24 ≤ hoff_of tuple) × (hoff_of tuple ≤ length tuple)

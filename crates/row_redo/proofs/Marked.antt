@@ -14,7 +14,7 @@ use Rattle.heap_redo.specs.TupleHeads.{Head, head_of, head_bytes, marked_mask, p
 use Rattle.row_model.specs.Versions.{Version, Inserter, Nobody, Always, By, taken_back, with_deleter}
 use Rattle.row_model.specs.RowSteps.{deleter_of_mark}
 use Rattle.row_model.specs.Shows.{StoresSame, ShowsInserter, ShowsDeleter, Shows}
-use Rattle.record_numbers.specs.Fits.{AreBytes}
+use Rattle.pg_types.specs.Bytes.{AreBytes}
 use Rattle.row_redo.proofs.Bits.{mark-xmin_marks, mark-nulls, mark-committed, mark-invalid, mark-lock_only, mark-multi, mark-small}
 use Rattle.row_redo.proofs.Heads.{HeadFits, head-fits, head-reads, head-bytes, end-of, Marks}
 

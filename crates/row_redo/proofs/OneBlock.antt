@@ -26,11 +26,7 @@ use Rattle.row_redo.proofs.Places.{SameIn, same_back, steps_same, rules_same, no
 use Rattle.row_redo.proofs.Own.{own_in}
 use Rattle.row_redo.proofs.Pages.{image_fits, none_fit}
 use Rattle.row_redo.proofs.Standing.{Holds, IsBehind, block_same}
-
--- the two ways, whatever was tested
-pub by_cases : {X : Type 0} (v : Bool) (a b c : X) (P : Type 0) → (v ≡ true → a ≡ c → P) → (v ≡ false → b ≡ c → P) → cond v a b ≡ c → P
-by_cases true a b c P f g e = f refl e
-by_cases false a b c P f g e = g refl e
+use Rattle.heap_redo.proofs.Again.{by_cases}
 
 not_reached : (end : ℕ) (before : Seen) → IsBehind end before → has_reached end before ≡ false
 not_reached end absent behind = refl

@@ -15,7 +15,7 @@ use Rattle.row_model.specs.Shows.{ShowsInserter, ShowsDeleter, Shows, ShowsPlace
 use Rattle.row_model.specs.LegalSteps.{BirthMarks, BirthRule, BornFrozen, IsSpent, Unmarked}
 use Rattle.row_redo.proofs.Rules.{StepRule}
 use Rattle.pg_types.specs.declared.names.Locator.{Locator}
-use Rattle.record_numbers.specs.Fits.{AreBytes}
+use Rattle.pg_types.specs.Bytes.{AreBytes}
 use Rattle.row_redo.proofs.Fitting.{TuplesFit}
 use Rattle.row_redo.proofs.Heads.{Marks, marks-undone, head-fits}
 use Rattle.row_redo.proofs.Marked.{is-marked, shows-deleter, shows-undone, is-pointed, shows-pointed}

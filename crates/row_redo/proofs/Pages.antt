@@ -14,7 +14,7 @@ use Rattle.wal_bodies.specs.declared.types.RecImage.{RecImage}
 use Rattle.heap_redo.specs.After.{page_of_image}
 use Rattle.page_store.specs.Seen.{seen, seen_page, bad_block}
 use Rattle.row_model.specs.RowSteps.{items_in}
-use Rattle.record_numbers.specs.Fits.{AreBytes}
+use Rattle.pg_types.specs.Bytes.{AreBytes}
 use Rattle.row_redo.proofs.Fitting.{TuplesFit}
 
 -- the tuple of an item is bytes

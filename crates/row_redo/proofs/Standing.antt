@@ -9,12 +9,12 @@ use Rattle.transaction_model.specs.LegalTransactions.{Legal}
 use Rattle.xact_redo.specs.TransactionsOf.{transactions_of}
 use Rattle.row_model.specs.Versions.{Version, version_at}
 use Rattle.row_model.specs.Shows.{ShowsPlace, ShowsBlock}
-use Rattle.row_model.specs.Shown.{HasNone, ShowsSeen, ShowsTable}
+use Rattle.row_model.specs.Shown.{HasNone, ShowsSeen, ShowsTable, AreApart}
 use Rattle.row_redo.proofs.Fitting.{TuplesFit}
 use Rattle.heap_tuple.proofs.SameTuples.{same_hoff}
 use Rattle.row_redo.proofs.Heads.{tuple-long}
 use Rattle.row_redo.proofs.Places.{SameIn, none_same}
-use Rattle.row_redo.proofs.Apart.{AreApart, AreLost, AreSound, none_lost}
+use Rattle.row_redo.proofs.Apart.{AreLost, AreSound, none_lost}
 use Rattle.row_redo.proofs.Later.{block_later}
 
 -- a page was changed by no record past this position, shows its block's versions, and its tuples fit; a block that is not

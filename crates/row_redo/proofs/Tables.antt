@@ -1,22 +1,14 @@
 -- The described tables by their files.
-use Rattle.std.proofs.Common.{◌≡◌, ℕ, true, false, ◌&&◌, ◌==◌, List, get_or, Some, subst, All}
-use Rattle.std.proofs.lemmas.Bool.{and_parts, eqb-true, both_ways}
+use Rattle.std.proofs.Common.{◌≡◌, ℕ, true, false, List, get_or, Some, subst, All}
+use Rattle.std.proofs.lemmas.Bool.{both_ways}
 use Rattle.std.proofs.lemmas.List.Quantifiers.{position-Some}
 use Rattle.pg_types.specs.declared.names.Locator.{Locator}
-use Rattle.wal_bodies.specs.HeapKinds.{same_locator}
 use Rattle.wal_bodies.specs.declared.types.Rec.{Rec}
 use Rattle.heap_redo.specs.Redone.{table_of}
 use Rattle.row_model.specs.Origins.{LogOrigin}
 use Rattle.row_model.specs.LegalRows.{LegalTable}
-
-pub same_file : (a b : Locator) → same_locator a b ≡ true → a ≡ b
-same_file a b h =
-    let (first, rel) = and_parts ((a.space == b.space) && (a.db == b.db)) (a.rel == b.rel) h in
-    let (space, db) = and_parts (a.space == b.space) (a.db == b.db) first in
-    let p = eqb-true a.space b.space space in
-    let q = eqb-true a.db b.db db in
-    let r = eqb-true a.rel b.rel rel in
-    λ i. record { space = p i; db = q i; rel = r i }
+use Rattle.pg_types.specs.Locators.{same_locator}
+use Rattle.pg_types.proofs.Locators.{same_file}
 
 module _ (known : List Locator) (locator : Locator) (table : ℕ) (here : table_of known locator ≡ Some table) where
   -- the table stands at its number

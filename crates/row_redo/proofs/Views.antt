@@ -7,10 +7,8 @@ use Rattle.wal_bodies.specs.declared.types.RecBlock.{RecBlock}
 use Rattle.wal_bodies.specs.declared.types.Rec.{Rec}
 use Rattle.page_store.specs.Seen.{Seen, View}
 use Rattle.heap_redo.specs.Redone.{is_anew, is_left, with_seen, or_zero_block, grown, view_with}
-
-apart : (v : Bool) (f g : View) (t b : ℕ) → (cond v f g) t b ≡ cond v (f t b) (g t b)
-apart true f g t b = refl
-apart false f g t b = refl
+use Rattle.page_store.proofs.Blocks.{at-other_block}
+use Rattle.heap_redo.proofs.Views.{cond_view}
 
 -- the table grows to the block
 abbrev pub grows : Rec → RecBlock → Bool
@@ -29,10 +27,7 @@ module _ (rec : Rec) (block : RecBlock) (view : View) (tag : Tag) (left : Seen) 
   unfolding view_with with_seen
   view_off t b off =
       ap (λ (v : Bool). cond v left ((cond (grows rec block) (grown view tag) view) t b)) off
-      ∙ apart (grows rec block) (grown view tag) view t b
-
-  off_block : (t b : ℕ) → b ≢ tag.block → is_at tag t b ≡ false
-  off_block t b other = and_right (t == tag.table) (b == tag.block) (ne_eqb b tag.block other)
+      ∙ cond_view (grows rec block) (grown view tag) view t b
 
   same_both : (v : Bool) (s : Seen) → cond v s s ≡ s
   same_both true s = refl
@@ -53,12 +48,12 @@ module _ (rec : Rec) (block : RecBlock) (view : View) (tag : Tag) (left : Seen) 
   -- of a table that does not grow
   pub view_still : (t b : ℕ) → b ≢ tag.block → grows rec block ≡ false → view_with rec block view tag left t b ≡ view t b
   view_still t b other still =
-      view_off t b (off_block t b other) ∙ ap (λ (v : Bool). cond v (grown view tag t b) (view t b)) still
+      view_off t b (at-other_block tag t b other) ∙ ap (λ (v : Bool). cond v (grown view tag t b) (view t b)) still
 
   -- past the block
   pub view_past : (t b : ℕ) → tag.block < b → view_with rec block view tag left t b ≡ view t b
   view_past t b past =
-      view_off t b (off_block t b (omega arith))
+      view_off t b (at-other_block tag t b (omega arith))
       ∙ ap (λ (s : Seen). cond (grows rec block) s (view t b))
       (not_grown t b (and_right (t == tag.table) (nat_lt b tag.block) (le-ltb b tag.block (omega arith))))
       ∙ same_both (grows rec block) (view t b)
@@ -69,7 +64,7 @@ module _ (rec : Rec) (block : RecBlock) (view : View) (tag : Tag) (left : Seen) 
       → view_with rec block view tag left tag.table b ≡ or_zero_block (view tag.table b)
   unfolding grown
   view_filled b less more =
-      view_off tag.table b (off_block tag.table b (omega arith))
+      view_off tag.table b (at-other_block tag tag.table b (omega arith))
       ∙ ap (λ (v : Bool). cond v (grown view tag tag.table b) (view tag.table b)) more
       ∙ ap (λ (v : Bool). cond v (or_zero_block (view tag.table b)) (view tag.table b))
       (and_from (tag.table == tag.table) (nat_lt b tag.block) (eq-eqb tag.table tag.table refl) (lt-ltb b tag.block less))

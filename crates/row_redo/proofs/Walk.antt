@@ -8,7 +8,6 @@ use Rattle.pg_types.specs.declared.names.Tag.{Tag}
 use Rattle.heap_page.specs.Law.{TuplesKeepRule, ZerosHaveNone}
 use Rattle.wal_bodies.specs.declared.types.RecBlock.{RecBlock}
 use Rattle.wal_bodies.specs.declared.types.Rec.{Rec}
-use Rattle.wal_bodies.specs.HeapKinds.{same_locator}
 use Rattle.heap_redo.specs.After.{BlockRefusal, applied}
 use Rattle.heap_redo.specs.declared.fault.RedoFault.{RedoFault}
 use Rattle.page_store.specs.Seen.{Seen, absent, bad_block, seen_page, View}
@@ -22,10 +21,12 @@ use Rattle.row_redo.proofs.Rules.{StepsRule}
 use Rattle.row_redo.proofs.Places.{SameIn, same_joined, steps_away, steps_joined, rules_split, none_same}
 use Rattle.row_redo.proofs.Own.{block_in}
 use Rattle.row_redo.proofs.Pages.{zeros_seen, none_fit}
-use Rattle.row_redo.proofs.Tables.{file_found, other_file, same_file}
+use Rattle.row_redo.proofs.Tables.{file_found, other_file}
 use Rattle.row_redo.proofs.Views.{grows, view_at, view_other, view_still, view_past, view_filled}
 use Rattle.row_redo.proofs.Standing.{Holds, IsBehind, holds_same}
 use Rattle.row_redo.proofs.OneBlock.{IsKept, IsChanged, none_shows, one_block}
+use Rattle.pg_types.specs.Locators.{same_locator}
+use Rattle.pg_types.proofs.Locators.{same_file}
 
 -- one of these blocks is the table's block with this number
 abbrev pub Comes : Locator → ℕ → List RecBlock → Type 0

@@ -11,7 +11,7 @@ use Rattle.page_store.specs.Content.{page_answer, lent_to_read as read}
 use Rattle.page_store.specs.Seen.{bad_block, seen_page, seen}
 use Rattle.pg_types.specs.declared.fail.NoMemory.{NoMemory}
 use Rattle.seq_scan.specs.declared.rows.BlockRows.{BlockRows as RowsRead}
-use Rattle.seq_scan.specs.Meaning.{end_of, meaning}
+use Rattle.seq_scan.specs.Meaning.{block_end, meaning}
 use Rattle.seq_scan.specs.Printed.{printed_rows}
 use Rattle.seq_scan.specs.declared.rows.BlockEnd.{BlockEnd as EndRead}
 use Rattle.std.proofs.lemmas.List.{append-nil}
@@ -52,13 +52,13 @@ module _ (columns : List Column) (sees : List ℕ → Result Bool Unknown) where
   none_read block result fault (Err out) answer e rows = rows
 
   -- the lines of a page that is lent are those of its block
-  pub rows_printed : (head text new : List ℕ) (block : Option (List ℕ)) (result : Result (Bor (List ℕ)) PoolFault) (page : Bor (List ℕ)) (r : Result EndRead NoMemory) → read result ≡ page_answer block → result ≡ Ok page → IfOk r (λ end. (new, end_of end) ≡ printed_rows head columns text (rows_from columns sees 1 (items_of page.now))) → IfOk r (λ end. (new, end_of end) ≡ printed_rows head columns text (block_rows columns sees (seen block)))
+  pub rows_printed : (head text new : List ℕ) (block : Option (List ℕ)) (result : Result (Bor (List ℕ)) PoolFault) (page : Bor (List ℕ)) (r : Result EndRead NoMemory) → read result ≡ page_answer block → result ≡ Ok page → IfOk r (λ end. (new, block_end end) ≡ printed_rows head columns text (rows_from columns sees 1 (items_of page.now))) → IfOk r (λ end. (new, block_end end) ≡ printed_rows head columns text (block_rows columns sees (seen block)))
   rows_printed head text new block result page r answer e rows =
       let same : rows_from columns sees 1 (items_of page.now) ≡ block_rows columns sees (seen block) = rows_of block page.now (ap read (sym e) ∙ answer) in
       IfOk-weaker r _ _ (λ end is. is ∙ ap (printed_rows head columns text) same) rows
 
   -- a block whose page is not lent prints no lines
-  pub none_printed : (head text : List ℕ) (block : Option (List ℕ)) (result : Result (Bor (List ℕ)) PoolFault) (fault : PoolFault) (r : Result EndRead NoMemory) → read result ≡ page_answer block → result ≡ Err fault → IfOk r (λ end. end_of end ≡ NoPage) → IfOk r (λ end. (text, end_of end) ≡ printed_rows head columns text (block_rows columns sees (seen block)))
+  pub none_printed : (head text : List ℕ) (block : Option (List ℕ)) (result : Result (Bor (List ℕ)) PoolFault) (fault : PoolFault) (r : Result EndRead NoMemory) → read result ≡ page_answer block → result ≡ Err fault → IfOk r (λ end. block_end end ≡ NoPage) → IfOk r (λ end. (text, block_end end) ≡ printed_rows head columns text (block_rows columns sees (seen block)))
   none_printed head text block result fault (Ok end) answer e ends_so =
       ap (λ last. (text, last)) ends_so
       ∙ ap (λ (t : List ℕ). (t, NoPage)) (sym (append-nil text))

@@ -9,7 +9,7 @@ use Rattle.seq_scan.specs.BlockRows.{BlockEnd, BlockRows, Whole, ends, with_row,
 use Rattle.seq_scan.specs.declared.rows.BlockEnd.{BlockEnd as EndRead}
 use Rattle.seq_scan.specs.declared.line.Found.{Found}
 use Rattle.seq_scan.specs.declared.line.Found.TheVariants.{Nothing, Row, End}
-use Rattle.seq_scan.specs.Meaning.{end_of, before, with_item, behind}
+use Rattle.seq_scan.specs.Meaning.{block_end, before, with_item, behind}
 
 -- whether a tuple is seen
 abbrev pub Sees : Type 0
@@ -68,9 +68,9 @@ behind_end : (rows : List (List Cell)) (end : BlockEnd) → behind rows (ends en
 behind_end rows end = ap (λ xs. record { rows = xs; end = end }) (append-nil rows)
 
 -- a line that ends the rows
-pub end_read : (columns : List Column) (sees : Sees) (items : List Item) (k : ℕ) (found : Found) (rows : List (List Cell)) (end : EndRead) (whole : BlockRows) → k < length items → IsFound columns sees items k found → behind rows (lines_behind columns sees items k) ≡ whole → found ≡ End end → record { rows = rows; end = end_of end } ≡ whole
+pub end_read : (columns : List Column) (sees : Sees) (items : List Item) (k : ℕ) (found : Found) (rows : List (List Cell)) (end : EndRead) (whole : BlockRows) → k < length items → IsFound columns sees items k found → behind rows (lines_behind columns sees items k) ≡ whole → found ≡ End end → record { rows = rows; end = block_end end } ≡ whole
 end_read columns sees items k found rows end whole h is so_far last =
-    sym (behind_end rows (end_of end))
+    sym (behind_end rows (block_end end))
     ∙ ap (λ f. behind rows (before f (lines_behind columns sees items (k + 1)))) (sym last)
     ∙ ap (behind rows) (sym (next_line columns sees items k found h is))
     ∙ so_far

@@ -5,7 +5,7 @@ use Rattle.heap_tuple.specs.declared.cell.Column.{Column}
 use Rattle.heap_page.specs.Item.{Item, numbered}
 use Rattle.seq_scan.specs.BlockRows.{BlockEnd, BlockRows, Whole, rows_from}
 use Rattle.seq_scan.specs.declared.rows.BlockEnd.{BlockEnd as EndRead}
-use Rattle.seq_scan.specs.Meaning.{end_of, with_item}
+use Rattle.seq_scan.specs.Meaning.{block_end, with_item}
 use Rattle.seq_scan.specs.Printed.{printed_before, printed_rows}
 use Rattle.seq_scan.proofs.PageLoop.{Sees, lines_behind, next_item}
 
@@ -27,7 +27,7 @@ line_goes_on head columns sees items k text more found whole h is so_far none =
     ∙ so_far
 
 -- a line that ends the rows
-pub line_ends : (head : List ℕ) (columns : List Column) (sees : Sees) (items : List Item) (k : ℕ) (text more : List ℕ) (found : Option EndRead) (end : EndRead) (whole : List ℕ × BlockEnd) → k < length items → IsPrinted head columns sees items k text more found → printed_rows head columns text (lines_behind columns sees items k) ≡ whole → found ≡ Some end → (more, end_of end) ≡ whole
+pub line_ends : (head : List ℕ) (columns : List Column) (sees : Sees) (items : List Item) (k : ℕ) (text more : List ℕ) (found : Option EndRead) (end : EndRead) (whole : List ℕ × BlockEnd) → k < length items → IsPrinted head columns sees items k text more found → printed_rows head columns text (lines_behind columns sees items k) ≡ whole → found ≡ Some end → (more, block_end end) ≡ whole
 line_ends head columns sees items k text more found end whole h is so_far last =
     ap (λ f. printed_before head columns more f (lines_behind columns sees items (k + 1))) (sym last)
     ∙ line_printed head columns sees items k text more found h is

@@ -16,16 +16,16 @@ use Rattle.seq_scan.specs.declared.line.Found.{Found}
 use Rattle.seq_scan.specs.declared.line.Found.TheVariants.{Nothing, Row, End}
 
 -- the end that is meant
-abbrev pub end_of : EndRead → BlockEnd
-end_of IsWhole = Whole
-end_of (Toasted line column) = ToastedAt line column
-end_of (Bad line column) = BadAt line column
-end_of (NotKnown line id) = UnknownAt line id
-end_of IsNoPage = NoPage
+abbrev pub block_end : EndRead → BlockEnd
+block_end IsWhole = Whole
+block_end (Toasted line column) = ToastedAt line column
+block_end (Bad line column) = BadAt line column
+block_end (NotKnown line id) = UnknownAt line id
+block_end IsNoPage = NoPage
 
 -- the rows that are meant, and their end
 abbrev pub meaning : RowsRead → BlockRows
-meaning block = record { rows = block.rows; end = end_of block.end }
+meaning block = record { rows = block.rows; end = block_end block.end }
 
 -- whether a snapshot sees a tuple, which has no need of parents
 abbrev pub seen_by : SnapshotData → (ℕ → Status) → (ℕ → Option (Option Xid)) → List ℕ → Result Bool Unknown
@@ -35,7 +35,7 @@ seen_by snapshot statuses updaters tuple = visible_of tuple snapshot no_parents 
 abbrev pub before : Found → BlockRows → BlockRows
 before Nothing rest = rest
 before (Row row) rest = with_row row rest
-before (End end) rest = ends (end_of end)
+before (End end) rest = ends (block_end end)
 
 -- a line before the others: only one with a tuple may have a row
 abbrev pub with_item : List Column → (List ℕ → Result Bool Unknown) → ℕ → Item → BlockRows → BlockRows

@@ -8,7 +8,7 @@ ghost use Rattle.page_store.specs.Seen.{seen};
 ghost use Rattle.standby_snapshot.specs.Snapshot.{in_numbers, no_parents};
 ghost use Rattle.tuple_visibility.specs.Visible.{visible_of};
 ghost use Rattle.seq_scan.specs.BlockRows.{BlockRows, NoPage, block_rows, rows_from, with_tuple, with_values};
-ghost use Rattle.seq_scan.specs.Meaning.{end_of, seen_by, with_item};
+ghost use Rattle.seq_scan.specs.Meaning.{block_end, seen_by, with_item};
 ghost use Rattle.seq_scan.specs.Printed.{printed_before, printed_rows};
 
 use crate::rows::BlockEnd;
@@ -105,7 +105,7 @@ fn print_page<S: Statuses>(
     out: &mut Vec<u8>,
 ) -> Result<BlockEnd, NoMemory>
     ensures { let sees = seen_by (in_numbers snapshot.now) (S.status_of statuses.now) (S.updater_of statuses.now) in
-        IfOk result (λ end. (out.new.items, end_of end) ≡ printed_rows head.now columns.now out.old.items (rows_from columns.now sees 1 (items_of page.now))) }
+        IfOk result (λ end. (out.new.items, block_end end) ≡ printed_rows head.now columns.now out.old.items (rows_from columns.now sees 1 (items_of page.now))) }
 {
     for k in 0..page.lines() {
         match print_line(page, k + 1, columns, snapshot, statuses, head, out)? {
@@ -118,7 +118,7 @@ fn print_page<S: Statuses>(
 
 /// How the rows of a block end whose page is not lent.
 fn end_without(fault: PoolFault) -> Result<BlockEnd, NoMemory>
-    ensures end { IfOk result (λ end. end_of end ≡ NoPage) }
+    ensures end { IfOk result (λ end. block_end end ≡ NoPage) }
     ensures ok { OnOk result (fault ≢ PoolFault.Memory) }
     ensures err { OnErr result (fault ≡ PoolFault.Memory) }
 {
@@ -141,7 +141,7 @@ pub fn print_block<S: Statuses>(
     out: &mut Vec<u8>,
 ) -> Result<BlockEnd, NoMemory>
     requires table { tag.table < table_count pool.old }
-    ensures rows { IfOk result (λ end. (out.new.items, end_of end) ≡ printed_rows head.now columns.now out.old.items (block_rows columns.now
+    ensures rows { IfOk result (λ end. (out.new.items, block_end end) ≡ printed_rows head.now columns.now out.old.items (block_rows columns.now
         (λ tuple. visible_of tuple (in_numbers snapshot.now) no_parents (S.status_of statuses.now) (S.updater_of statuses.now))
         (seen (content pool.old tag.table tag.block)))) }
     ensures content { content pool.new ≡ content pool.old }

@@ -1,6 +1,6 @@
 ghost use Rattle.std.specs.Prelude.{◌≡◌};
 ghost use Rattle.standby_snapshot.specs.Snapshot.{in_numbers};
-ghost use Rattle.seq_scan.specs.Meaning.{end_of};
+ghost use Rattle.seq_scan.specs.Meaning.{block_end};
 ghost use Rattle.seq_scan.specs.Scans.{end_at};
 
 use crate::block::read_block;
@@ -191,7 +191,7 @@ impl Scan {
 
 /// How the rows of this block end, and whether there are more blocks. It takes no memory.
 pub fn end_at(block: u32, more: bool, end: BlockEnd) -> PageEnd
-    ensures { result ≡ end_at block more (end_of end) }
+    ensures { result ≡ end_at block more (block_end end) }
 {
     match end {
         BlockEnd::Whole => PageEnd::Rows { more },

@@ -1,32 +1,11 @@
--- Texts written one after another.
-use Rattle.std.proofs.Common.{◌≡◌, ℕ, ◌+◌, ◌≤◌, ◌⊎◌, inl, inr, List, [], ◌++◌, Option, Some, None, Result, Err, length, take, refl, ap, sym, ◌∙◌, subst, append_assoc, append-nil, arith}
-use Rattle.std.proofs.Math.Seq.{take-append-add}
+-- A line behind a text that was written, and counts of faults that rose.
+use Rattle.std.proofs.Common.{◌≡◌, ℕ, ◌+◌, ◌≤◌, ◌⊎◌, inl, inr, List, ◌++◌, Option, Result, Err, refl, arith}
 use Rattle.outside.specs.Faults.{Rose}
-use Rattle.outside.specs.Sink.{Appends, AppendsNothing, AppendsPrefix}
+use Rattle.outside.specs.Sink.{Appends}
 use Rattle.run_model.specs.Leaves.{AppendsUnless}
 use Rattle.standby_session.specs.declared.fault.SessionFault.{SessionFault}
 use Rattle.standby_session.specs.declared.fault.SessionFault.TheVariants.{Archive, Source, Sink, Memory}
-
--- one text after another
-pub appends_both :
-    (before between now : Option (List ℕ)) (x y : List ℕ) → Appends before between x → Appends between now y
-    → Appends before now (x ++ y)
-appends_both None between now x y p q = tt
-appends_both (Some a) between now x y p q =
-    let r = subst (λ (o : Option (List ℕ)). Appends o now y) p q in
-    r ∙ ap (λ (t : List ℕ). Some t) (append_assoc a x y)
-
-past_front : (x y : List ℕ) (n : ℕ) → take (length x + n) (x ++ y) ≡ x ++ take n y
-past_front x y n = take-append-add x y n
-
--- a text, and then a prefix of another
-appends_prefix :
-    (before between now : Option (List ℕ)) (x y : List ℕ) → Appends before between x → AppendsPrefix between now y
-    → AppendsPrefix before now (x ++ y)
-appends_prefix None between now x y p q = tt
-appends_prefix (Some a) between now x y p q =
-    let (n, e) = subst (λ (o : Option (List ℕ)). AppendsPrefix o now y) p q in
-    (length x + n, e ∙ ap (λ (t : List ℕ). Some t) (append_assoc a x (take n y)) ∙ ap (λ (t : List ℕ). Some (a ++ t)) (sym (past_front x y n)))
+use Rattle.standby_session.proofs.Appending.{appends_both, appends_prefix}
 
 -- a text that was written, and then a line, or a prefix of it
 pub line_after :
@@ -35,15 +14,6 @@ pub line_after :
 line_after trouble worse before between now x fault_line f p (inl q) = inl (appends_both before between now x fault_line p q)
 line_after trouble worse before between now x fault_line f p (inr (t, q)) =
     inr (f t, appends_prefix before between now x fault_line p q)
-
--- nothing was written
-pub nothing_appended : (now : Option (List ℕ)) → Appends now now []
-nothing_appended None = tt
-nothing_appended (Some a) = ap (λ (t : List ℕ). Some t) (sym (append-nil a))
-
-pub nothing_of : (before now : Option (List ℕ)) → AppendsNothing before now → Appends before now []
-nothing_of None now p = tt
-nothing_of (Some a) now p = p ∙ ap (λ (t : List ℕ). Some t) (sym (append-nil a))
 
 -- a count that rose over a part of a run rose over the run
 pub rose_over : (before between now : ℕ) → before ≤ between → Rose between now → Rose before now

@@ -81,11 +81,11 @@ tables_of_scan name a b e = cc
 tables_held : (a b : Description) → Holds a ≡ Holds b → b ≡ a
 tables_held a b e = cc
 
-not_rejected : (name : List ℕ) (a : Description) (r : Rejection) → Scans a name ≡ Rejects r → ⊥
-not_rejected name a r e = cc
+pub scans_no_rejection : (tables : Description) (name : List ℕ) (rejection : Rejection) → Scans tables name ≡ Rejects rejection → ⊥
+scans_no_rejection tables name rejection e = cc
 
-not_rejected_held : (a : Description) (r : Rejection) → Holds a ≡ Rejects r → ⊥
-not_rejected_held a r e = cc
+pub holds_no_rejection : (tables : Description) (rejection : Rejection) → Holds tables ≡ Rejects rejection → ⊥
+holds_no_rejection tables rejection e = cc
 
 scanned_text :
     (command : Command) (base : List ℕ → Option (List ℕ)) (tables : Description) (name : List ℕ)
@@ -99,7 +99,7 @@ scanned_text HoldsSession base tables name (reading, is, e) = absurd (not_held r
     not_held (Read (Err fault)) e = cc
 scanned_text (ScansTable other) base tables name (reading, is, e) =
     text_of tables base (λ (found : Description). Scans found other) (tables_of_scan other tables)
-    (not_rejected other tables) (reading, is, moved reading e)
+    (scans_no_rejection tables other) (reading, is, moved reading e)
   where
     moved :
         (reading : Reading) → Scans tables name ≡ start_by (λ (found : Description). Scans found other) reading
@@ -118,7 +118,7 @@ held_text (ScansTable other) base tables (reading, is, e) = absurd (not_scanned 
     not_scanned Absent e = cc
     not_scanned (Read (Ok found)) e = cc
     not_scanned (Read (Err fault)) e = cc
-held_text HoldsSession base tables starts = text_of tables base Holds (tables_held tables) (not_rejected_held tables) starts
+held_text HoldsSession base tables starts = text_of tables base Holds (tables_held tables) (holds_no_rejection tables) starts
 
 module _ (simulates : NodeSimulates) (begins_so : BeginsSo) (top : ℕ → ℕ) (files : List ℕ → Option (List ℕ)) (have : HaveBytes (Some files)) where
   stand : (tables : Description) → Represents (world top files tables) origin.redo.0 (start tables) (life_begins origin.redo)

@@ -9,19 +9,19 @@ use Rattle.session_model.specs.NodeSteps.{NodeStep}
 use Rattle.session_model.specs.Texts.{line}
 use Rattle.standby_session.specs.declared.fault.SessionFault.{SessionFault}
 use Rattle.standby_session.specs.declared.fault.SessionFault.TheVariants as fault
-use Rattle.legal_session.specs.AbstractStandby.{Step, life_begins}
 use Rattle.legal_session.specs.Represents.{BeginsSo, NodeSimulates}
-use Rattle.run_model.specs.Leaves.{AppendsUnless, IsAnswered, IsFault, IsRejected, Outside, RejectionLeaves, RunLeaves, ScanLeaves}
-use Rattle.run_model.specs.Origin.{origin, start}
+use Rattle.run_model.specs.Leaves.{IsFault, IsRejected, Outside, RejectionLeaves, RunLeaves, ScanLeaves}
+use Rattle.run_model.specs.Origin.{start}
 use Rattle.run_model.specs.Starts.{BadWords, SchemaMissing, SchemaRefused, Rejection, Start, Rejects, Scans, Holds, Starts, rejection_status, rejection_text}
 use Rattle.run_model.proofs.Beginning.{one_start}
-use Rattle.standby_cli.specs.LegalRun.{IsLegalRun, world}
 use Rattle.standby_cli.specs.Watched.{watched}
-use Rattle.standby_cli.proofs.Appending.{line_after, nothing_appended}
+use Rattle.standby_cli.proofs.Appending.{line_after}
 use Rattle.standby_cli.proofs.Ending.{no_fault, other, other_than}
 use Rattle.standby_cli.proofs.Legal.{legal_run}
 use Rattle.standby_cli.specs.Endings.{EndsBy, status_of}
 use Rattle.standby_cli.proofs.Running.{IsEarly, scan_early, session_early}
+use Rattle.standby_session.proofs.Appending.{nothing_appended}
+use Rattle.standby_cli.specs.Runs.{RunsByNode, RunsLegally}
 
 -- a scan's run is told without a source
 pub scan_anyway :
@@ -37,19 +37,12 @@ pub rejection_anyway :
 rejection_anyway rejection status f h s u P Q before now leaves =
     record { statuses = leaves.statuses; done = leaves.done; archive = leaves.archive; memory = leaves.memory; sink = leaves.sink }
 
+pub same_rejection : (a b : Rejection) → Rejects a ≡ Rejects b → a ≡ b
+same_rejection a b e = cc
+
 module _ (words : List (List ℕ)) (base : Option (List ℕ → Option (List ℕ))) where
   abbrev pub Begins : Start → Type 0
   Begins a = IfSome base (λ described. Starts words described a)
-
-  abbrev pub RunClause : Option (ℕ → Option ℕ) → Option (List ℕ) → ℕ → Outside → Type 0
-  RunClause bytes source status o =
-      IfSome base (λ described. IfSome bytes (λ byte.
-      (begins : Start) → Starts words described begins → RunLeaves (λ tables. NodeStep byte) start source begins status o))
-
-  abbrev pub LegalClause : Option (List ℕ → Option (List ℕ)) → Option (List ℕ) → ℕ → Outside → Type 0
-  LegalClause files source status o =
-      IfSome base (λ described. IfSome files (λ fs. (top : ℕ → ℕ) (begins : Start) → Starts words described begins → IsLegalRun top fs begins
-      → RunLeaves (λ tables. Step (world top fs tables)) (λ tables. life_begins origin.redo) source begins status o))
 
   -- what is so of the one way in which the run begins
   by_start :
@@ -62,14 +55,13 @@ module _ (words : List (List ℕ)) (base : Option (List ℕ → Option (List ℕ
     Leaves a = IfSome bytes (λ byte. RunLeaves (λ tables. NodeStep byte) start source a status o)
 
     -- a run that begins so
-    pub run_begun : (a : Start) → Begins a → Leaves a → RunClause bytes source status o
+    pub run_begun : (a : Start) → Begins a → Leaves a → RunsByNode words base bytes source status o
     run_begun a begins leaves = by base bytes begins leaves
       where
         by :
             (base : Option (List ℕ → Option (List ℕ))) (bytes : Option (ℕ → Option ℕ)) → IfSome base (λ described. Starts words described a)
             → IfSome bytes (λ byte. RunLeaves (λ tables. NodeStep byte) start source a status o)
-            → IfSome base (λ described. IfSome bytes (λ byte.
-            (begins : Start) → Starts words described begins → RunLeaves (λ tables. NodeStep byte) start source begins status o))
+            → RunsByNode words base bytes source status o
         by None bytes begins leaves = tt
         by (Some described) None begins leaves = tt
         by (Some described) (Some byte) begins leaves =
@@ -84,7 +76,7 @@ module _ (words : List (List ℕ)) (base : Option (List ℕ → Option (List ℕ
 
     -- or one that a fault ended before it began
     pub run_early :
-        (why : SessionFault) → IsEarly why → status ≡ status_of why → EndsBy why o.trouble o.before o.now → RunClause bytes source status o
+        (why : SessionFault) → IsEarly why → status ≡ status_of why → EndsBy why o.trouble o.before o.now → RunsByNode words base bytes source status o
     run_early why early e ends = by base bytes
       where
         begun : (byte : ℕ → Option ℕ) (begins : Start) → RunLeaves (λ tables. NodeStep byte) start source begins status o
@@ -92,10 +84,7 @@ module _ (words : List (List ℕ)) (base : Option (List ℕ → Option (List ℕ
         begun byte (Scans tables name) = scan_early tables o (Some byte) name status why early e ends
         begun byte (Holds tables) = session_early tables o (Some byte) source status why early e ends
 
-        by :
-            (base : Option (List ℕ → Option (List ℕ))) (bytes : Option (ℕ → Option ℕ))
-            → IfSome base (λ described. IfSome bytes (λ byte.
-            (begins : Start) → Starts words described begins → RunLeaves (λ tables. NodeStep byte) start source begins status o))
+        by : (base : Option (List ℕ → Option (List ℕ))) (bytes : Option (ℕ → Option ℕ)) → RunsByNode words base bytes source status o
         by None bytes = tt
         by (Some described) None = tt
         by (Some described) (Some byte) = λ begins starts. begun byte begins
@@ -103,15 +92,13 @@ module _ (words : List (List ℕ)) (base : Option (List ℕ → Option (List ℕ
   -- and over a legal log
   pub legal_clause :
       NodeSimulates → BeginsSo → (files : Option (List ℕ → Option (List ℕ))) (source : Option (List ℕ)) (status : ℕ) (o : Outside)
-      → HaveBytes files → RunClause (archived_bytes files segment_size) source status o → LegalClause files source status o
+      → HaveBytes files → RunsByNode words base (archived_bytes files segment_size) source status o
+      → RunsLegally words base files source status o
   legal_clause simulates begins_so files source status o have run = by base files have run
     where
       by :
           (base files : Option (List ℕ → Option (List ℕ))) → HaveBytes files
-          → IfSome base (λ described. IfSome (archived_bytes files segment_size) (λ byte.
-          (begins : Start) → Starts words described begins → RunLeaves (λ tables. NodeStep byte) start source begins status o))
-          → IfSome base (λ described. IfSome files (λ fs. (top : ℕ → ℕ) (begins : Start) → Starts words described begins → IsLegalRun top fs begins
-          → RunLeaves (λ tables. Step (world top fs tables)) (λ tables. life_begins origin.redo) source begins status o))
+          → RunsByNode words base (archived_bytes files segment_size) source status o → RunsLegally words base files source status o
       by None files have run = tt
       by (Some described) None have run = tt
       by (Some described) (Some fs) have run = λ top begins starts legal.
@@ -135,15 +122,12 @@ module _ (words : List (List ℕ)) (base : Option (List ℕ → Option (List ℕ
     pub rejecting : (r : Rejection) → Begins (Rejects r) → P r → RejectsClause
     rejecting r begins holds = by base begins
       where
-        one : (a b : Rejection) → Rejects a ≡ Rejects b → a ≡ b
-        one a b e = cc
-
         by :
             (base : Option (List ℕ → Option (List ℕ))) → IfSome base (λ described. Starts words described (Rejects r))
             → IfSome base (λ described. (rejection : Rejection) → Starts words described (Rejects rejection) → P rejection)
         by None begins = tt
         by (Some described) begins = λ rejection starts.
-            subst P (one r rejection (one_start words described (Rejects r) (Rejects rejection) begins starts)) holds
+            subst P (same_rejection r rejection (one_start words described (Rejects r) (Rejects rejection) begins starts)) holds
 
     -- what holds of all holds of the one
     pub any_rejection : ((rejection : Rejection) → P rejection) → RejectsClause
@@ -207,17 +191,18 @@ held_as status (inl (inl e)) = inl (inl e)
 held_as status (inl (inr e)) = inl (inr (inr e))
 held_as status (inr is) = inr is
 
+-- a rejection's status, where the run was rejected
+status_is : (status : ℕ) (r : Rejection) → IsRejected status → (status ≡ rejection_status r) ⊎ IsFault status → status ≡ rejection_status r
+status_is status r is (inl e) = e
+status_is status r is (inr fault) = absurd (not_rejected status fault is)
+
 -- a run that is rejected
 pub rejected_so :
     (words : List (List ℕ)) (base : Option (List ℕ → Option (List ℕ))) (r : Rejection) (status : ℕ) (o : Outside)
     → IfSome base (λ described. Starts words described (Rejects r)) → RejectionLeaves r status o → IsRejected status
     → IfSome base (λ described. (rejection : Rejection) × Starts words described (Rejects rejection) × (status ≡ rejection_status rejection))
 rejected_so words None r status o begins leaves is = tt
-rejected_so words (Some described) r status o begins leaves is = (r, begins, by leaves.statuses)
-  where
-    by : (status ≡ rejection_status r) ⊎ IsFault status → status ≡ rejection_status r
-    by (inl e) = e
-    by (inr fault) = absurd (not_rejected status fault is)
+rejected_so words (Some described) r status o begins leaves is = (r, begins, status_is status r is leaves.statuses)
 
 -- only bad words have the status 2
 two_is : (r : Rejection) → rejection_status r ≡ 2 → r ≡ BadWords
@@ -230,12 +215,8 @@ pub bad_words :
     → (r ≡ BadWords) × Appends o.before o.now (rejection_text BadWords)
 bad_words r status o leaves two = (is, wrote)
   where
-    by : (status ≡ rejection_status r) ⊎ IsFault status → status ≡ rejection_status r
-    by (inl e) = e
-    by (inr fault) = absurd (not_rejected status fault (inl two))
-
     is : r ≡ BadWords
-    is = two_is r (sym (by leaves.statuses) ∙ two)
+    is = two_is r (sym (status_is status r (inl two) leaves.statuses) ∙ two)
 
     wrote : Appends o.before o.now (rejection_text BadWords)
     wrote =
@@ -251,15 +232,6 @@ bad_words_end r status o leaves is not_seven = by leaves.statuses
     by (inl e) = inl (e ∙ ap (λ (x : Rejection). rejection_status x) is)
     by (inr (inl seven)) = absurd (not_seven seven)
     by (inr (inr fault)) = inr fault
-
-pub same_rejection : (a b : Rejection) → Rejects a ≡ Rejects b → a ≡ b
-same_rejection a b e = cc
-
-pub scans_no_rejection : (tables : Description) (name : List ℕ) (rejection : Rejection) → Scans tables name ≡ Rejects rejection → ⊥
-scans_no_rejection tables name rejection e = cc
-
-pub holds_no_rejection : (tables : Description) (rejection : Rejection) → Holds tables ≡ Rejects rejection → ⊥
-holds_no_rejection tables rejection e = cc
 
 pub early_end : (why : SessionFault) → IsEarly why → (status : ℕ) → status ≡ status_of why → IsFault status
 early_end fault.Archive early status e = inl e

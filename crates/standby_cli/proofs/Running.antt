@@ -1,5 +1,5 @@
 -- What a scan and a session leave over a node whose life begins.
-use Rattle.std.proofs.Common.{◌≡◌, ◌⊎◌, ℕ, lit<, inl, inr, List, [], ◌++◌, Option, None, Some, IfSome, Ok, Err, refl, sym, subst, codes}
+use Rattle.std.proofs.Common.{◌≡◌, ◌⊎◌, ℕ, lit<, inl, inr, List, [], Option, None, Some, IfSome, Ok, Err, refl, sym, subst, codes}
 use Rattle.outside.specs.Sink.{AppendsNothing}
 use Rattle.table_schema.specs.Description.{Description}
 use Rattle.session_text.specs.Requests.{requests_read}
@@ -10,15 +10,16 @@ use Rattle.session_model.specs.Sessions.{IsFrontOfSession}
 use Rattle.session_model.specs.Texts.{line}
 use Rattle.standby_session.specs.declared.fault.SessionFault.{SessionFault}
 use Rattle.standby_session.specs.declared.fault.SessionFault.TheVariants as fault
-use Rattle.standby_session.specs.Held.{HeldFront, Leaves, LeavesTold}
+use Rattle.standby_session.specs.Held.{Leaves, LeavesTold}
 use Rattle.standby_session.specs.Scanned.{ScanLeft, ScanLeftTold}
 use Rattle.run_model.specs.Leaves.{AppendsUnless, IsAnswered, Outside, RejectionLeaves, ScanLeaves, SessionLeaves}
 use Rattle.run_model.specs.Origin.{start}
 use Rattle.run_model.specs.Starts.{Rejection}
 use Rattle.standby_cli.specs.Endings.{EndsBy, status_of}
-use Rattle.standby_cli.proofs.Appending.{line_after, nothing_appended, nothing_of}
+use Rattle.standby_cli.proofs.Appending.{line_after}
 use Rattle.standby_cli.proofs.Beginning.{is_bare, keeps_nothing}
 use Rattle.standby_cli.proofs.Ending.{no_fault, other_than, scan_done, scan_ended, session_done, session_ended}
+use Rattle.standby_session.proofs.Appending.{nothing_appended, nothing_more}
 
 -- no request is finished yet
 none_finished : (byte : ℕ → Option ℕ) (tables : Description) (source : List ℕ) → IsFrontOfSession (NodeStep byte) (start tables) source []
@@ -182,6 +183,6 @@ rejection_unwritten rejection status o mid trouble e worse none ends =
       statuses = inr (inr (inr refl));
       done = λ is. absurd (no_fault 12 12 is (lit< tt) refl);
       archive = λ e. absurd (other_than 12 7 (lit< tt) e);
-      memory = λ _. ([], refl, line_after trouble o.trouble o.before mid o.now [] (line (codes "fault memory")) worse (nothing_of o.before mid none) ends);
+      memory = λ _. ([], refl, line_after trouble o.trouble o.before mid o.now [] (line (codes "fault memory")) worse (nothing_more o.before mid none) ends);
       sink = λ e. absurd (other_than 12 9 (lit< tt) e);
     })

@@ -1,4 +1,5 @@
 pub mod Endings
 pub mod LegalRun
 pub mod Meaning
+pub mod Runs
 pub mod Watched

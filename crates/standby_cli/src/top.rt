@@ -1,14 +1,11 @@
-ghost use Rattle.std.specs.Prelude.{◌≡◌, ◌≢◌, ◌⊎◌, ℕ, IfSome, map, string_bytes};
+ghost use Rattle.std.specs.Prelude.{◌≡◌, ◌≢◌, ◌⊎◌, IfSome, map, string_bytes};
 ghost use Rattle.outside.specs.Faults.{Rose};
 ghost use Rattle.outside.specs.Sink.{Appends};
 ghost use Rattle.wal_archive.specs.ArchiveLog.{archived_bytes};
 ghost use Rattle.standby_model.specs.Archived.{segment_size};
-ghost use Rattle.session_model.specs.NodeSteps.{NodeStep};
-ghost use Rattle.run_model.specs.Leaves.{IsAnswered, IsFault, IsRejected, RejectionLeaves, RunLeaves};
-ghost use Rattle.legal_session.specs.AbstractStandby.{Step, life_begins};
-ghost use Rattle.run_model.specs.Origin.{origin, start};
-ghost use Rattle.run_model.specs.Starts.{BadWords, NoCommand, Rejection, Rejects, Start as Begins, Starts, command_of, rejection_status, rejection_text};
-ghost use Rattle.standby_cli.specs.LegalRun.{IsLegalRun, world};
+ghost use Rattle.run_model.specs.Leaves.{IsAnswered, IsFault, IsRejected, RejectionLeaves};
+ghost use Rattle.run_model.specs.Starts.{BadWords, NoCommand, Rejection, Rejects, Starts, command_of, rejection_status, rejection_text};
+ghost use Rattle.standby_cli.specs.Runs.{RunsByNode, RunsLegally};
 ghost use Rattle.standby_cli.specs.Watched.{watched};
 
 use crate::begin::{Start, begin};
@@ -40,20 +37,16 @@ pub fn standby_main<A: Archive, B: BaseDir, S: Source, O: Sink>(
 
     // What is written and the status are those of the run: of a scan or a session, by the steps of a node whose life begins
     // at the log's origin; where a fault ended it, of what was finished before.
-    ensures run { IfSome (B.files base.old) (λ described. IfSome (archived_bytes (A.files archive.old) segment_size) (λ byte.
-        (begins : Begins) → Starts (map string_bytes words.now) described begins
-        → RunLeaves (λ tables. NodeStep byte) start (S.rest source.old) begins result
+    ensures run { RunsByNode (map string_bytes words.now) (B.files base.old) (archived_bytes (A.files archive.old) segment_size) (S.rest source.old) result
         (watched (O.fault_count out.old) (O.fault_count out.new) (O.short_count out.old) (O.short_count out.new)
-        (Rose (S.fault_count source.old) (S.fault_count source.new)) (O.written out.old) (O.written out.new)))) }
+        (Rose (S.fault_count source.old) (S.fault_count source.new)) (O.written out.old) (O.written out.new)) }
 
     // Over a log that a primary could write they are those of a run by the steps of the abstract standby, which are told by the
     // log alone: scans are admitted exactly where the base backup has ended and the running transactions are known, and give
     // the rows that were committed at their opening, in order of place.
-    ensures legal { IfSome (B.files base.old) (λ described. IfSome (A.files archive.old) (λ files.
-        (top : ℕ → ℕ) (begins : Begins) → Starts (map string_bytes words.now) described begins → IsLegalRun top files begins
-        → RunLeaves (λ tables. Step (world top files tables)) (λ tables. life_begins origin.redo) (S.rest source.old) begins result
+    ensures legal { RunsLegally (map string_bytes words.now) (B.files base.old) (A.files archive.old) (S.rest source.old) result
         (watched (O.fault_count out.old) (O.fault_count out.new) (O.short_count out.old) (O.short_count out.new)
-        (Rose (S.fault_count source.old) (S.fault_count source.new)) (O.written out.old) (O.written out.new)))) }
+        (Rose (S.fault_count source.old) (S.fault_count source.new)) (O.written out.old) (O.written out.new)) }
 
     // What the words and the base folder decide is so whatever the archive and the source hold, and neither is asked then.
     ensures rejects { IfSome (B.files base.old) (λ described. (rejection : Rejection)

@@ -16,7 +16,7 @@ use Rattle.standby_core.specs.declared.scans.Opened.TheVariants as opened
 use Rattle.standby_core.specs.Standby.{Standby}
 use Rattle.standby_core.specs.Scans.{HasBlocks, OpensScan, is_admitted, is_crowded, is_ready, is_there, most_scans, new_scan}
 
-ready_when : (mode : State) → is_ready mode ≡ true → mode ≡ Ready
+pub ready_when : (mode : State) → is_ready mode ≡ true → mode ≡ Ready
 ready_when Initialized e = cc
 ready_when (Pending until) e = cc
 ready_when Ready e = refl

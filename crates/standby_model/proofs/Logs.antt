@@ -1,5 +1,5 @@
 -- Two logs of one length that stand are one, and none that stands is longer than a whole one; and a log that stands rises.
-use Rattle.std.proofs.Common.{◌≡◌, ℕ, ◌<◌, List, [], ◌∷◌, length, Result, Ok, Err, arith, refl, sym, ap, subst, ◌∙◌, inl, inr}
+use Rattle.std.proofs.Common.{◌≡◌, ℕ, ◌<◌, List, [], ◌∷◌, length, Result, Ok, Err, arith, refl, sym, ap, subst, inl, inr}
 use Rattle.std.proofs.lemmas.Bool.{cases_order, cases_eq}
 use Rattle.pg_types.specs.declared.names.Lsn.{Lsn}
 use Rattle.wal_record.specs.declared.types.PrevRule.{PrevRule}
@@ -7,22 +7,13 @@ use Rattle.wal_reader.specs.declared.types.NoRecord.{NoRecord}
 use Rattle.wal_reader.specs.Log.{StepsOn}
 use Rattle.wal_reader.specs.Step.{Entry, step}
 use Rattle.wal_reader.specs.Told.{Told}
-use Rattle.wal_bodies.specs.declared.types.BodyFault.{BodyFault}
 use Rattle.wal_bodies.specs.declared.types.Rec.{Rec}
 use Rattle.wal_record.specs.declared.types.RecordHead.{RecordHead}
 use Rattle.wal_bodies.specs.Typed.{formed, read_as, typed}
-use Rattle.wal_bodies.specs.Ends.{end_of, Rises}
+use Rattle.wal_bodies.specs.Ends.{end_of}
 use Rattle.standby_model.specs.Log.{Described, IsLog, Stands, Stop, link_after, next_of, record_at, typed_of, unless_refused}
 use Rattle.standby_model.specs.Laws.{LogRises, OneLog}
-
-one_ok : {A E : Type 0} (r : Result A E) (a b : A) → r ≡ Ok a → r ≡ Ok b → a ≡ b
-one_ok r a b e f = cc
-
-one_err : {A E : Type 0} (r : Result A E) (a b : E) → r ≡ Err a → r ≡ Err b → a ≡ b
-one_err r a b e f = cc
-
-not_both : {A E : Type 0} (r : Result A E) (a : A) (e : E) → r ≡ Ok a → r ≡ Err e → ⊥
-not_both r a e p q = cc
+use Rattle.wal_reader.proofs.OneResult.{not_both, one_err, one_ok}
 
 module _ (told : Told) (described : Described) (from : ℕ) where
   next_moved : (log other : List Rec) (found : Result Rec Stop) → log ≡ other → next_of told described from other ≡ found → next_of told described from log ≡ found

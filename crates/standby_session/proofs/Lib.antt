@@ -1,4 +1,4 @@
-mod Appending
+pub mod Appending
 mod Talking
 mod Given
 mod Holding

@@ -14,25 +14,14 @@ use Rattle.standby_session.specs.Answered.{Answered, AnsweredFirst, AnsweredPref
 use Rattle.standby_session.specs.declared.fault.SessionFault.{SessionFault}
 use Rattle.standby_session.specs.declared.fault.SessionFault.TheVariants as fault
 use Rattle.standby_session.proofs.Appending.{appends_both, appends_prefix, nothing_appended}
+use Rattle.session_model.proofs.Talking.{talks_both}
+use Rattle.std.proofs.Math.Bool.{or-false}
 
 or_assoc : (x y z : Bool) → (x || y || z) ≡ (x || (y || z))
 or_assoc true y z = refl
 or_assoc false y z = refl
 
-or_false : (x : Bool) → (x || false) ≡ x
-or_false true = refl
-or_false false = refl
-
 module _ {S : Type 0} (step : Steps S) where
-  pub talks_on :
-      (first second : List Request) (a b : List Answer) (s mid now : S) → Talks step first s a mid → Talks step second mid b now
-      → Talks step (first ++ second) s (a ++ b) now
-  unfolding Talks
-  talks_on [] second [] b s mid now p q = subst (λ (m : S). Talks step second m b now) p q
-  talks_on [] second (x ∷ a) b s mid now p q = absurd p
-  talks_on (r ∷ first) second [] b s mid now p q = absurd p
-  talks_on (r ∷ first) second (x ∷ a) b s mid now (m, one, more) q = (m, one, talks_on first second a b m mid now more q)
-
   talks_none : (s : S) → Talks step [] s [] s
   unfolding Talks
   talks_none s = refl
@@ -42,7 +31,7 @@ module _ {S : Type 0} (step : Steps S) where
       (s : S) (before now : Option (List ℕ)) (was is : Bool) → Appends before now [] → is ≡ was
       → Answered step s [] before now was is s
   answered_none s before now was is p e =
-      record { answers = []; talks = talks_none s; writes = p; trouble = e ∙ sym (or_false was) }
+      record { answers = []; talks = talks_none s; writes = p; trouble = e ∙ sym (or-false was) }
 
   texts : (a b : List Answer) → talk_text a ++ talk_text b ≡ talk_text (a ++ b)
   texts a b = sym (flat_map-append answer_text a b)
@@ -53,7 +42,7 @@ module _ {S : Type 0} (step : Steps S) where
       → Answered step s (first ++ second) before after was is now
   answered_on first second s mid now before between after was so is p q = record {
     answers = p.answers ++ q.answers;
-    talks = talks_on first second p.answers q.answers s mid now p.talks q.talks;
+    talks = talks_both step first second p.answers q.answers s mid now p.talks q.talks;
     writes = subst (λ (t : List ℕ). Appends before after t) (texts p.answers q.answers)
         (appends_both before between after (talk_text p.answers) (talk_text q.answers) p.writes q.writes);
     trouble = q.trouble ∙ ap (λ (b : Bool). b || list_any is_troubled q.answers) p.trouble
@@ -71,7 +60,7 @@ module _ {S : Type 0} (step : Steps S) where
     asks = ap (λ (rs : List Request). first ++ rs) q.asks ∙ sym (append_assoc first q.finished q.others);
     answers = p.answers ++ q.answers;
     node = q.node;
-    talks = talks_on first q.finished p.answers q.answers s mid q.node p.talks q.talks;
+    talks = talks_both step first q.finished p.answers q.answers s mid q.node p.talks q.talks;
     writes = subst (λ (t : List ℕ). Appends before after t) (texts p.answers q.answers)
         (appends_both before between after (talk_text p.answers) (talk_text q.answers) p.writes q.writes);
   }
@@ -86,7 +75,7 @@ module _ {S : Type 0} (step : Steps S) where
     asks = ap (λ (rs : List Request). first ++ rs) q.asks ∙ sym (append_assoc first q.finished q.others);
     answers = p.answers ++ q.answers;
     node = q.node;
-    talks = talks_on first q.finished p.answers q.answers s mid q.node p.talks q.talks;
+    talks = talks_both step first q.finished p.answers q.answers s mid q.node p.talks q.talks;
     writes = subst (λ (t : List ℕ). AppendsPrefix before after t) (texts p.answers q.answers)
         (appends_prefix before between after (talk_text p.answers) (talk_text q.answers) p.writes q.writes);
   }
@@ -157,7 +146,7 @@ module _ {S : Type 0} (step : Steps S) where
     answers = answer ∷ [];
     talks = (now, says, refl);
     writes = subst (λ (t : List ℕ). Appends before after t) (sym (append-nil (answer_text answer))) p;
-    trouble = e ∙ ap (λ (b : Bool). was || b) (sym (or_false (is_troubled answer)));
+    trouble = e ∙ ap (λ (b : Bool). was || b) (sym (or-false (is_troubled answer)));
   }
 
   pub prefix_of_one :

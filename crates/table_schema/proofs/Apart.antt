@@ -81,7 +81,7 @@ unless :
 unless true fault rest value e = cc
 unless false fault rest value e = (refl, e)
 
-none_found : {A : Type 0} (found : Option A) → is_some found ≡ false → found ≡ None
+pub none_found : {A : Type 0} (found : Option A) → is_some found ≡ false → found ≡ None
 none_found None e = refl
 none_found (Some x) e = cc
 

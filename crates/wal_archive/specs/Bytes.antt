@@ -1,7 +1,8 @@
 -- The log that an archive tells is made of bytes.
 use Rattle.std.proofs.Common.{ℕ, ◌<◌, ◌%◌, List, [], ◌∷◌, zero, suc, Bool, true, false, cond, Option, None, Some, IfSome, arith, ltb}
 use Rattle.std.specs.List.{slice_get}
-use Rattle.outside.specs.Archive.{AreBytes, HaveBytes}
+use Rattle.pg_types.specs.Bytes.{AreBytes}
+use Rattle.outside.specs.Archive.{HaveBytes}
 use Rattle.outside.specs.Log.{log_limit}
 use Rattle.wal_archive.specs.ArchiveLog.{AreToldBytes, archived_byte, archived_bytes, byte_of_file, segment_file}
 

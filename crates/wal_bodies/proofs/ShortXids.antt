@@ -1,8 +1,9 @@
 -- The transaction ids of a record's main data are of 32 bits.
-use Rattle.std.proofs.Common.{◌≡◌, ℕ, zero, suc, ◌+◌, ◌^◌, ◌<◌, ◌==◌, Bool, false, cond, not, nat_le, List, [], ◌∷◌, All, drop, slice_index, Option, Some, None, Result, Ok, Err, IfOk, refl, sym, subst, arith}
+use Rattle.std.proofs.Common.{◌≡◌, ℕ, zero, suc, ◌+◌, ◌<◌, ◌==◌, Bool, false, cond, not, nat_le, List, [], ◌∷◌, All, slice_index, Option, Some, None, Result, Ok, Err, IfOk, refl, sym, subst, arith}
 use Rattle.std.specs.List.{list_any}
 use Rattle.std.proofs.lemmas.Bool.{cond_both, leb-false, or_parts}
-use Rattle.std.proofs.lemmas.List.Elements.{All-cons, All-drop, All-nil}
+use Rattle.std.proofs.lemmas.List.Elements.{All-cons, All-nil}
+use Rattle.pg_types.specs.Bytes.{AreBytes}
 use Rattle.pg_types.specs.Numbers.{number_at}
 use Rattle.pg_types.specs.declared.names.Lsn.{Lsn}
 use Rattle.pg_types.specs.declared.names.Tli.{Tli}
@@ -20,33 +21,14 @@ use Rattle.wal_bodies.specs.Kinds.{backup_end, checkpoint, database_kind, ended,
 use Rattle.wal_bodies.specs.HeapKinds.{confirm, delete, heap2_kind, heap_kind, in_place, insert, lock, lock_updated, multi_insert, multi_insert_of, update}
 use Rattle.wal_bodies.specs.Typed.{ended_in, is_last, names_last}
 use Rattle.wal_bodies.specs.Xids.{IsShort, kind_xids, record_xids}
-
-abbrev pub AreBytes : List ℕ → Type 0
-AreBytes bytes = All (λ byte. byte < 256) bytes
-
-all_bytes : (bytes : List ℕ) → ((i : ℕ) → slice_index bytes i < 256) → AreBytes bytes
-all_bytes [] each k d h = absurd (omega arith)
-all_bytes (b ∷ bytes) each zero d h = each zero
-all_bytes (b ∷ bytes) each (suc k) d h = all_bytes bytes (λ i. each (suc i)) k d (omega arith)
-
-byte_within : (bytes : List ℕ) (i : ℕ) → AreBytes bytes → slice_index bytes i < 256
-byte_within [] i all = omega arith
-byte_within (b ∷ bytes) zero all = all zero 0 (omega arith)
-byte_within (b ∷ bytes) (suc i) all = byte_within bytes i (λ k d h. all (suc k) d (omega arith))
-
--- a number of four bytes
-pub four_bytes : (bytes : List ℕ) (at : ℕ) → AreBytes bytes → number_at 4 bytes at < 2 ^ 32
-unfolding number_at
-four_bytes bytes at all =
-    let rest : AreBytes (drop at bytes) = All-drop (λ byte. byte < 256) at bytes all in
-    omega (arith, byte_within (drop at bytes) 0 rest, byte_within (drop at bytes) 1 rest, byte_within (drop at bytes) 2 rest, byte_within (drop at bytes) 3 rest)
+use Rattle.pg_types.proofs.Bytes.{bytes-are, number-fits}
 
 -- ids that stand one after another
 pub xids_short : (bytes : List ℕ) (at n : ℕ) → AreBytes bytes → All IsShort (xids_at bytes at n)
 unfolding xids_at
 xids_short bytes at zero all = All-nil IsShort
 xids_short bytes at (suc n) all =
-    All-cons IsShort (xid_at bytes at) (xids_at bytes (at + 4) n) (four_bytes bytes at all) (xids_short bytes (at + 4) n all)
+    All-cons IsShort (xid_at bytes at) (xids_at bytes (at + 4) n) (number-fits 4 bytes at all) (xids_short bytes (at + 4) n all)
 
 -- the ids of a running record and the next one of a checkpoint; those that ended are looked at apart
 abbrev told_xids : RecKind → List Xid
@@ -129,7 +111,7 @@ running_ok : (main : List ℕ) → AreBytes main
     → Fits (Ok (Running (number_at 4 main 0) (number_at 4 main 4) (not (slice_index main 8 == 0)) (xid_at main 12) (xid_at main 16) (xid_at main 20) (xids_at main 24 (number_at 4 main 0 + number_at 4 main 4))))
 running_ok main all =
     running_told (number_at 4 main 0) (number_at 4 main 4) (not (slice_index main 8 == 0)) (xid_at main 12) (xid_at main 16) (xid_at main 20) (xids_at main 24 (number_at 4 main 0 + number_at 4 main 4))
-    (four_bytes main 12 all) (four_bytes main 16 all) (four_bytes main 20 all) (xids_short main 24 (number_at 4 main 0 + number_at 4 main 4) all)
+    (number-fits 4 main 12 all) (number-fits 4 main 16 all) (number-fits 4 main 20 all) (xids_short main 24 (number_at 4 main 0 + number_at 4 main 4) all)
 
 running_fits : (main : List ℕ) → AreBytes main → Fits (running main)
 unfolding running
@@ -236,4 +218,4 @@ pub record_short : (rec : Record) (database : ℕ) (known : List Locator) (kind 
     → Ok kind ≡ kind_of rec database known → names_last rec.head kind ≡ false → All IsShort (record_xids rec.head kind)
 record_short rec database known kind each is e =
     All-cons IsShort rec.head.xid (kind_xids kind) (own_short rec.head kind e)
-    (all_short rec.head kind e (kind_told kind (subst Fits (sym is) (kind_fits rec database known (all_bytes rec.main each)))))
+    (all_short rec.head kind e (kind_told kind (subst Fits (sym is) (kind_fits rec database known (bytes-are rec.main each)))))

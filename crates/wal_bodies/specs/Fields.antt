@@ -1,8 +1,8 @@
 -- Fields of a record's main data and of a block's data, and the steps that may refuse.
 use Rattle.std.specs.Prelude.{ℕ, ◌==◌, nat_lt, List, length, drop, Option, Some, None, Result, Ok, Err, if◌then◌else◌}
-use Rattle.pg_types.specs.Numbers.{number_at}
 pub use Rattle.record_fields.specs.Fields.{lsn_at, tli_at, xid_at}
 unfoldable pub use Rattle.record_fields.specs.Fields.{xids_at, lines_at, first_lines}
+use Rattle.wal_record.specs.Parts.{number_from}
 use Rattle.wal_record.specs.Record.{Block, Record, block_by_id}
 use Rattle.wal_bodies.specs.declared.types.BodyFault.{BodyFault}
 use Rattle.wal_bodies.specs.declared.types.BodyFault.TheVariants.{Length}
@@ -17,9 +17,14 @@ abbrev pub result_map : {A B : Type 0} → (A → B) → Result A BodyFault → 
 result_map f (Err refusal) = Err refusal
 result_map f (Ok x) = Ok (f x)
 
--- a number of n bytes at the front, and what stands behind it
-unfoldable pub number_from : ℕ → List ℕ → Result (ℕ × List ℕ) BodyFault
-number_from n text = if nat_lt (length text) n then Err Length else Ok (number_at n text 0, drop n text)
+-- what a body has to have: without it, it is too short
+abbrev pub needed : {A : Type 0} → Option A → Result A BodyFault
+needed None = Err Length
+needed (Some x) = Ok x
+
+-- a number of n bytes at the front, which the body has to have, and what stands behind it
+unfoldable pub needed_number : ℕ → List ℕ → Result (ℕ × List ℕ) BodyFault
+needed_number n text = needed (number_from n text)
 
 -- what is left behind n bytes
 unfoldable pub behind : ℕ → List ℕ → Result (List ℕ) BodyFault
@@ -33,8 +38,3 @@ if_main (Some block) = if block.fork == 0 then Some block else None
 -- the block with this id, if the record has one, of the main fork
 abbrev pub main_block : ℕ → Record → Option Block
 main_block id rec = if_main (block_by_id id rec.blocks)
-
--- the block, which the record has to have
-abbrev pub needed : Option Block → Result Block BodyFault
-needed None = Err Length
-needed (Some block) = Ok block

@@ -11,6 +11,7 @@ use Rattle.wal_bodies.specs.declared.types.What.TheVariants.{InPlace, NotYet}
 use Rattle.wal_bodies.specs.declared.types.RecKind.{RecKind}
 use Rattle.wal_bodies.specs.declared.types.RecKind.TheVariants.{Insert, Delete, Update, Confirm, Lock, MultiInsert, LockUpdated, Other}
 use Rattle.wal_bodies.specs.Fields.{◌>>=◌, xid_at, lines_at, first_lines, main_block, needed}
+use Rattle.pg_types.specs.Locators.{same_locator}
 
 -- xl_heap_insert
 unfoldable pub insert : List ℕ → Result RecKind BodyFault
@@ -61,10 +62,6 @@ multi_insert main will_init =
     else if will_init then Ok (MultiInsert (slice_index main 0) (first_lines (count_of main)))
     else if nat_lt (length main) (4 + 2 * count_of main) then Err Length
     else Ok (MultiInsert (slice_index main 0) (lines_at main 4 (count_of main)))
-
--- two files are one
-abbrev pub same_locator : Locator → Locator → Bool
-same_locator a b = (a.space == b.space) && (a.db == b.db) && (a.rel == b.rel)
 
 -- the file is that of a described table
 abbrev pub is_described : List Locator → Locator → Bool

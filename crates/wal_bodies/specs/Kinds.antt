@@ -10,7 +10,7 @@ use Rattle.wal_bodies.specs.declared.types.BodyFault.TheVariants.{Length, Unsupp
 use Rattle.wal_bodies.specs.declared.types.What.TheVariants.{Prepared, Minimal, PageWrites, Database, Epoch, NotYet}
 use Rattle.wal_bodies.specs.declared.types.RecKind.{RecKind}
 use Rattle.wal_bodies.specs.declared.types.RecKind.TheVariants.{Checkpoint, BackupEnd, Parameters, FullPageWrites, Images, Overwrite, Ended, Running, Other}
-use Rattle.wal_bodies.specs.Fields.{◌>>=◌, lsn_at, tli_at, xid_at, xids_at, number_from, behind}
+use Rattle.wal_bodies.specs.Fields.{◌>>=◌, lsn_at, tli_at, xid_at, xids_at, needed_number, behind}
 use Rattle.wal_bodies.specs.HeapKinds.{heap_kind, heap2_kind}
 
 -- A checkpoint (CheckPoint, pg_control.h). Timelines other than the first are not read yet.
@@ -66,7 +66,7 @@ xlog_kind info main =
 
 -- xinfo, which is there with info bit 0x80 (XLOG_XACT_HAS_INFO)
 unfoldable pub xinfo_from : ℕ → List ℕ → Result (ℕ × List ℕ) BodyFault
-xinfo_from info text = if has_bits info 0x80 then number_from 4 text else Ok (0, text)
+xinfo_from info text = if has_bits info 0x80 then needed_number 4 text else Ok (0, text)
 
 -- the database and its tablespace, which are there with xinfo bit 0 (XACT_XINFO_HAS_DBINFO)
 unfoldable pub behind_database : ℕ → List ℕ → Result (List ℕ) BodyFault
@@ -75,7 +75,7 @@ behind_database xinfo text = if has_bits xinfo 1 then behind 8 text else Ok text
 -- a count of four bytes, which is not below 0, and what stands behind it
 unfoldable pub count_from : List ℕ → Result (ℕ × List ℕ) BodyFault
 count_from text = do
-  count ← number_from 4 text
+  count ← needed_number 4 text
   if nat_le 2147483648 count.0 then Err Length else Ok count
 
 -- a count, and as many transaction ids
@@ -98,7 +98,7 @@ parts_by xinfo text =
 -- a time of eight bytes (TimestampTz), and what stands behind it
 unfoldable pub time_from : List ℕ → Result (ℤ × List ℕ) BodyFault
 time_from text = do
-  time ← number_from 8 text
+  time ← needed_number 8 text
   Ok (cast_signed w64 time.0, time.1)
 
 -- the end of a transaction (xl_xact_commit, xl_xact_abort, xact.h)

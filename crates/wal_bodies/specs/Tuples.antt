@@ -8,7 +8,7 @@ use Rattle.wal_bodies.specs.declared.types.BodyFault.TheVariants.{Length}
 use Rattle.wal_bodies.specs.declared.types.NewTuple.{NewTuple}
 use Rattle.wal_bodies.specs.declared.types.RecKind.{RecKind}
 use Rattle.wal_bodies.specs.declared.types.RecKind.TheVariants.{Checkpoint, BackupEnd, Parameters, FullPageWrites, Images, Overwrite, Ended, Running, Insert, Delete, Update, Confirm, Lock, MultiInsert, LockUpdated, Other}
-use Rattle.wal_bodies.specs.Fields.{◌>>=◌, number_from, main_block, needed}
+use Rattle.wal_bodies.specs.Fields.{◌>>=◌, needed_number, main_block, needed}
 
 -- a tuple whose header's three fields stand at `at`, with these bytes behind them
 abbrev pub tuple_with : List ℕ → ℕ → ℕ → ℕ → List ℕ → NewTuple
@@ -28,7 +28,7 @@ inserted bytes =
 
 -- a length that the flag says is there, else 0
 unfoldable pub length_from : ℕ → ℕ → List ℕ → Result (ℕ × List ℕ) BodyFault
-length_from flags flag bytes = if has_bits flags flag then number_from 2 bytes else Ok (0, bytes)
+length_from flags flag bytes = if has_bits flags flag then needed_number 2 bytes else Ok (0, bytes)
 
 -- an update's tuple behind the two lengths: it has all its bytes up to the user data, at least
 unfoldable pub replaced : ℕ → ℕ → List ℕ → Result (List NewTuple) BodyFault

@@ -1,6 +1,6 @@
 ghost use Rattle.std.specs.Prelude.{◌≡◌, option_map};
 ghost use Rattle.wal_record.specs.Views.{block_of_view};
-ghost use Rattle.wal_bodies.specs.HeapKinds.{insert, delete, update, confirm, lock, lock_updated, multi_insert, multi_insert_of, same_locator, is_described, in_place, heap_kind, heap2_kind};
+ghost use Rattle.wal_bodies.specs.HeapKinds.{insert, delete, update, confirm, lock, lock_updated, multi_insert, multi_insert_of, is_described, in_place, heap_kind, heap2_kind};
 
 use crate::fields::main_block;
 use crate::types::{BodyFault, RecKind, What};

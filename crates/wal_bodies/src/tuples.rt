@@ -1,6 +1,6 @@
 ghost use Rattle.std.specs.Prelude.{◌≡◌, option_map};
 ghost use Rattle.wal_record.specs.Views.{block_of_view, image_of_view};
-ghost use Rattle.wal_bodies.specs.Fields.{number_from, result_map};
+ghost use Rattle.wal_bodies.specs.Fields.{needed_number, result_map};
 ghost use Rattle.wal_bodies.specs.Tuples.{inserted, length_from, replaced, updated, listed_from, is_applied, in_data, update_tuples, no_tuples, borrows, tuples_of, insert_tuples, multi_tuples};
 ghost use Rattle.wal_bodies.specs.Typed.{ids_of};
 ghost use Rattle.wal_bodies.specs.Stored.{with_blocks};
@@ -136,7 +136,7 @@ fn updated<'a>(flags: u8, bytes: &'a [u8]) -> Result<NewTuples<'a>, BodyFault>
 }
 
 /// A length of two bytes where the flag tells that it is there, else 0.
-#[tactic(auto, unfolding(crate::specs::Tuples::length_from, crate::specs::Fields::number_from))]
+#[tactic(auto, unfolding(crate::specs::Tuples::length_from, crate::specs::Fields::needed_number, wal_record::specs::Parts::number_from))]
 fn length_from(flags: u8, flag: u8, bytes: &[u8]) -> Result<(u16, &[u8]), BodyFault>
     ensures { result_map (λ x. (x.0, x.1.now)) result ≡ length_from flags flag bytes.now }
 {

@@ -1,5 +1,5 @@
 ghost use Rattle.std.specs.Prelude.{◌≡◌};
-ghost use Rattle.wal_bodies.specs.Fields.{number_from, behind, result_map};
+ghost use Rattle.wal_bodies.specs.Fields.{needed_number, behind, result_map};
 ghost use Rattle.wal_bodies.specs.Kinds.{time_from, xinfo_from, behind_database, count_from, counted_xids, subs_from, parts_by, ended, xact_kind};
 
 use crate::types::{BodyFault, RecKind, What};
@@ -30,7 +30,7 @@ fn ended<'a>(info: u8, main: &'a [u8]) -> Result<RecKind<'a>, BodyFault>
     Ok(RecKind::Ended { time, xinfo, xids })
 }
 
-#[tactic(auto, unfolding(crate::specs::Kinds::time_from, crate::specs::Fields::number_from))]
+#[tactic(auto, unfolding(crate::specs::Kinds::time_from, crate::specs::Fields::needed_number, wal_record::specs::Parts::number_from))]
 fn time_from(text: &[u8]) -> Result<(i64, &[u8]), BodyFault>
     ensures { result_map (λ x. (x.0, x.1.now)) result ≡ time_from text.now }
 {
@@ -53,9 +53,9 @@ fn xinfo_from(info: u8, text: &[u8]) -> Result<(u32, &[u8]), BodyFault>
 }
 
 /// A number of four bytes, and what stands behind it.
-#[tactic(auto, unfolding(crate::specs::Fields::number_from))]
+#[tactic(auto, unfolding(crate::specs::Fields::needed_number, wal_record::specs::Parts::number_from))]
 fn u32_in_front(text: &[u8]) -> Result<(u32, &[u8]), BodyFault>
-    ensures { result_map (λ x. (x.0, x.1.now)) result ≡ number_from 4 text.now }
+    ensures { result_map (λ x. (x.0, x.1.now)) result ≡ needed_number 4 text.now }
 {
     if text.len() < 4 {
         return Err(BodyFault::Length);

@@ -1,8 +1,8 @@
 -- What is read of a page's header and what is spelled are the same.
-use Rattle.std.proofs.Common.{◌%◌, ◌-◌, ◌≡◌, ◌==◌, ℕ, ◌^◌, ◌<◌, ◌≤◌, Bool, true, false, List, [], ◌∷◌, ◌++◌, length, length-drop, slice_index, append_assoc, drop, take, Option, Some, None, Ok, is_some, bit_and, if◌then◌else◌, refl, sym, ap, subst, ◌∙◌, arith, eq-eqb, not, inl, inr}
+use Rattle.std.proofs.Common.{◌%◌, ◌-◌, ◌≡◌, ◌==◌, ℕ, ◌^◌, ◌<◌, ◌≤◌, Bool, true, false, List, [], ◌∷◌, ◌++◌, length, length-drop, append_assoc, drop, take, Option, Some, None, Ok, is_some, bit_and, if◌then◌else◌, refl, sym, ap, subst, ◌∙◌, arith, eq-eqb, not, inl, inr}
 use Rattle.std.proofs.Math.Dec.{ltb}
-use Rattle.std.proofs.lemmas.Bool.{eqb-true, leb-true, le-leb, ltb-true, lt-ltb, and_parts, and_from, or_right, cases_Bool, cases_lt}
-use Rattle.std.proofs.lemmas.List.{drop-drop, take-append-drop, length-take, get_or_past}
+use Rattle.std.proofs.lemmas.Bool.{eqb-true, leb-true, le-leb, ltb-true, lt-ltb, and_parts, and_from, or_right, cases_Bool}
+use Rattle.std.proofs.lemmas.List.{drop-drop, take-append-drop, length-take}
 use Rattle.byteorder.specs.Endian.{little_bytes, little_number}
 use Rattle.pg_types.specs.Numbers.{number_at}
 use Rattle.pg_types.specs.declared.names.Tli.{Tli}
@@ -10,10 +10,10 @@ use Rattle.wal_page.specs.declared.Expect.{Expect}
 use Rattle.wal_page.specs.declared.PageHead.{PageHead}
 use Rattle.pg_types.specs.Names.{is_segment_size}
 use Rattle.wal_page.specs.Page.{magic_in, info_in, tli_in, address_in, rem_in, system_in, size_in, block_in, is_long_due, has_info, rules, head_in, page_header, long_text, header_with, HasInfo, Fits, IsExpectedAt, IsExpected, WrittenIsRead, ReadIsWritten}
-use Rattle.pg_types.proofs.SpelledNumbers.{AreBytes, spelled_at, read_back}
-use Rattle.std.proofs.lemmas.List.Elements.{All-drop}
-use Rattle.byteorder.specs.Numbers.{little_from-lt}
+use Rattle.pg_types.specs.Bytes.{AreBytes}
+use Rattle.pg_types.proofs.SpelledNumbers.{spelled_at, read_back}
 use Rattle.wal_page.proofs.Rules.{AllKept, kept-passes, passes-kept}
+use Rattle.pg_types.proofs.Bytes.{number-fits}
 
 -- the fields of a spelled header
 record FrontIsRead (text : List ℕ) (head : PageHead) : Type 0 where
@@ -216,14 +216,6 @@ written_is_read_lem head at expect padding rest expected n = absurd (omega arith
 
 -- The other way.
 
-byte_fits : (xs : List ℕ) (k : ℕ) → AreBytes xs → slice_index xs k < 256
-byte_fits xs k each = elim (cases_lt k (length xs)) [ inl inside ↦ each k 0 inside | inr past ↦ rw (get_or_past xs k 0 past) (omega arith) ]
-
--- a field is below its bound
-field_fits : (n : ℕ) (bytes : List ℕ) (at : ℕ) → AreBytes bytes → number_at n bytes at < 256 ^ n
-unfolding number_at
-field_fits n bytes at all = little_from-lt 0 n (drop at bytes) (λ k. byte_fits (drop at bytes) k (All-drop (λ byte. byte < 256) at bytes all))
-
 -- the text is that of its fields
 front_spelled : (bytes : List ℕ) (long : Option (ℕ × ℕ)) (rest : List ℕ) → AreBytes bytes → 24 ≤ length bytes → magic_in bytes ≡ 0xD113
     → drop 24 bytes ≡ long_text long ++ rest
@@ -265,17 +257,17 @@ some_same p q e = cc
 
 fits_found : (bytes : List ℕ) (long : Bool) → AreBytes bytes → has_info bytes long ≡ true → Fits (head_in bytes long)
 fits_found bytes true all kept = record {
-  tli = field_fits 4 bytes 4 all;
-  at = field_fits 8 bytes 8 all;
-  rem = field_fits 4 bytes 16 all;
-  system = λ sizes e. subst (λ (s : ℕ × ℕ). s.0 < 2 ^ 64) (some_same (system_in bytes, size_in bytes) sizes e) (field_fits 8 bytes 24 all);
-  size = λ sizes e. subst (λ (s : ℕ × ℕ). s.1 < 2 ^ 32) (some_same (system_in bytes, size_in bytes) sizes e) (field_fits 4 bytes 32 all);
+  tli = number-fits 4 bytes 4 all;
+  at = number-fits 8 bytes 8 all;
+  rem = number-fits 4 bytes 16 all;
+  system = λ sizes e. subst (λ (s : ℕ × ℕ). s.0 < 2 ^ 64) (some_same (system_in bytes, size_in bytes) sizes e) (number-fits 8 bytes 24 all);
+  size = λ sizes e. subst (λ (s : ℕ × ℕ). s.1 < 2 ^ 32) (some_same (system_in bytes, size_in bytes) sizes e) (number-fits 4 bytes 32 all);
   info = info_found bytes true kept;
 }
 fits_found bytes false all kept = record {
-  tli = field_fits 4 bytes 4 all;
-  at = field_fits 8 bytes 8 all;
-  rem = field_fits 4 bytes 16 all;
+  tli = number-fits 4 bytes 4 all;
+  at = number-fits 8 bytes 8 all;
+  rem = number-fits 4 bytes 16 all;
   system = λ sizes e. cc;
   size = λ sizes e. cc;
   info = info_found bytes false kept;

@@ -5,6 +5,7 @@ pub mod Halted
 pub mod Answered
 pub mod RecordSteps
 pub mod StepSteps
+pub mod OneResult
 pub mod Logs
 pub mod Onward
 pub mod InPage

@@ -1,5 +1,5 @@
 -- Two logs of one length that stand are one, and none that is longer than a whole log stands.
-use Rattle.std.proofs.Common.{◌≡◌, ℕ, ◌<◌, List, [], ◌∷◌, length, Result, Ok, Err, arith, refl, sym, ap, ◌∙◌, inl, inr}
+use Rattle.std.proofs.Common.{◌≡◌, ℕ, ◌<◌, List, [], ◌∷◌, length, Err, arith, refl, sym, ap, ◌∙◌, inl, inr}
 use Rattle.std.proofs.lemmas.Bool.{cases_order, cases_eq}
 use Rattle.pg_types.specs.declared.names.Lsn.{Lsn}
 use Rattle.wal_record.specs.declared.types.PrevRule.{PrevRule}
@@ -8,15 +8,7 @@ use Rattle.wal_reader.specs.declared.types.NoRecord.{NoRecord}
 use Rattle.wal_reader.specs.Told.{Told}
 use Rattle.wal_reader.specs.Step.{Entry, step}
 use Rattle.wal_reader.specs.Log.{Stands, OneLog}
-
-not_both : {A E : Type 0} (r : Result A E) (a : A) (e : E) → r ≡ Ok a → r ≡ Err e → ⊥
-not_both r a e p q = cc
-
-same_entry : (r : Result Entry NoRecord) (x y : Entry) → r ≡ Ok x → r ≡ Ok y → x ≡ y
-same_entry r x y p q = cc
-
-same_stop : (r : Result Entry NoRecord) (x y : NoRecord) → r ≡ Err x → r ≡ Err y → x ≡ y
-same_stop r x y p q = cc
+use Rattle.wal_reader.proofs.OneResult.{not_both, one_err, one_ok}
 
 module _ (told : Told) (from : ℕ) (before : PrevRule) where
   -- the step at one place is one
@@ -31,7 +23,7 @@ module _ (told : Told) (from : ℕ) (before : PrevRule) where
   stands_once (x ∷ log) (y ∷ other) at at' prev link e (p, l, s, r, i, j) (q, m, t, u, v, w) =
       let h = stands_once log other p q l m (omega arith) s t in
       let again = step_once p q l m h.1 h.2 ∙ u in
-      let same : x ≡ y = same_entry (step told p l) x y r again in
+      let same : x ≡ y = one_ok (step told p l) x y r again in
       let rests = h.0 in
       let place : at ≡ at' = i ∙ ap (λ (z : Entry). z.end) same ∙ sym v in
       let rule : prev ≡ link = j ∙ ap (λ (z : Entry). let n : Lsn = record { 0 = z.start } in Is n) same ∙ sym w in
@@ -55,7 +47,7 @@ one_log_lem told from before log other end end' stop stop' a b =
     elim (cases_order (length log) (length other)) [
       | inl e ↦
           let h = stands_once told from before log other end end' a.prev b.prev e a.stands b.stands in
-          (h.0, h.1, same_stop (step told end a.prev) stop stop' a.stops (step_once told from before end end' a.prev b.prev h.1 h.2 ∙ b.stops))
+          (h.0, h.1, one_err (step told end a.prev) stop stop' a.stops (step_once told from before end end' a.prev b.prev h.1 h.2 ∙ b.stops))
       | inr (inl less) ↦ absurd (no_longer told from before log other end end' a.prev b.prev stop less a.stands a.stops b.stands)
       | inr (inr more) ↦ absurd (no_longer told from before other log end' end b.prev a.prev stop' more b.stands b.stops a.stands)
     ]

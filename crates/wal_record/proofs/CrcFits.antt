@@ -2,9 +2,8 @@
 use Rattle.std.proofs.Common.{ℕ, zero, suc, ◌/◌, ◌%◌, ◌^◌, ◌<◌, Bool, true, false, cond, List, [], ◌∷◌, ◌++◌, fold, arith, ◌==◌, bit_xor}
 use Rattle.std.specs.List.{flat_map}
 use Rattle.std.proofs.lemmas.Nat.{xor_lt}
-use Rattle.std.proofs.lemmas.List.Elements.{All-nil, All-cons, All-head, All-tail, All-append}
+use Rattle.std.proofs.lemmas.List.Elements.{All-nil, All-head, All-tail}
 use Rattle.std.proofs.lemmas.List.Concat.{flat_map-cons}
-use Rattle.std.specs.Int.{byte_at, bytes_low_first}
 use Rattle.pg_crc32c.specs.Crc32c.{after_bit, after_bits, after_byte, crc32c_of}
 use Rattle.wal_record.specs.declared.parts.Part.{Part}
 use Rattle.wal_record.specs.declared.parts.Part.TheVariants as part
@@ -12,8 +11,9 @@ use Rattle.wal_record.specs.declared.parts.ImageHeader.{ImageHeader}
 use Rattle.wal_record.specs.declared.parts.BlockHeader.{BlockHeader}
 use Rattle.std.proofs.Common.{Option, Some, None}
 use Rattle.pg_types.specs.Numbers.{has_bits}
-use Rattle.wal_record.specs.Spelling.{AreBytes, byte, short, long, image_text, locator_text, relation_text, part_text}
-use Rattle.byteorder.specs.Endian.{little_bytes}
+use Rattle.pg_types.specs.Bytes.{AreBytes}
+use Rattle.wal_record.specs.Spelling.{one_byte, two_bytes, four_bytes, image_text, locator_text, relation_text, part_text}
+use Rattle.pg_types.proofs.Bytes.{both-bytes, number-bytes}
 
 -- ---- the CRC
 
@@ -41,44 +41,30 @@ crc-fits bytes all = xor_lt 32 (fold after_byte 0xFFFFFFFF bytes) 0xFFFFFFFF (fo
 
 -- ---- bytes
 
-byte_at-small : (i x : ℕ) → byte_at i x < 256
-byte_at-small zero x = omega arith
-byte_at-small (suc i) x = omega arith
-
-bytes-from : (i n x : ℕ) → AreBytes (bytes_low_first i n x)
-bytes-from i zero x = All-nil (λ b. b < 256)
-bytes-from i (suc n) x = All-cons (λ b. b < 256) (byte_at i x) (bytes_low_first (suc i) n x) (byte_at-small i x) (bytes-from (suc i) n x)
-
-pub number-bytes : (n x : ℕ) → AreBytes (little_bytes n x)
-number-bytes n x = bytes-from 0 n x
-
-pub both-bytes : (xs ys : List ℕ) → AreBytes xs → AreBytes ys → AreBytes (xs ++ ys)
-both-bytes xs ys h k = All-append (λ b. b < 256) xs ys h k
-
 image-bytes : (image : Option ImageHeader) → AreBytes (image_text image)
 image-bytes None = All-nil (λ b. b < 256)
-image-bytes (Some image) = both-bytes (short image.length) (short image.hole_at ++ byte image.info) (number-bytes 2 image.length) (both-bytes (short image.hole_at) (byte image.info) (number-bytes 2 image.hole_at) (number-bytes 1 image.info))
+image-bytes (Some image) = both-bytes (two_bytes image.length) (two_bytes image.hole_at ++ one_byte image.info) (number-bytes 2 image.length) (both-bytes (two_bytes image.hole_at) (one_byte image.info) (number-bytes 2 image.hole_at) (number-bytes 1 image.info))
 
 relation-bytes : (block : BlockHeader) → AreBytes (relation_text block)
 relation-bytes block = by-flag (has_bits block.flags 128)
   where
     by-flag : (b : Bool) → AreBytes (cond b [] (locator_text block.locator))
     by-flag true = All-nil (λ x. x < 256)
-    by-flag false = both-bytes (long block.locator.space) (long block.locator.db ++ long block.locator.rel) (number-bytes 4 block.locator.space)
-        (both-bytes (long block.locator.db) (long block.locator.rel) (number-bytes 4 block.locator.db) (number-bytes 4 block.locator.rel))
+    by-flag false = both-bytes (four_bytes block.locator.space) (four_bytes block.locator.db ++ four_bytes block.locator.rel) (number-bytes 4 block.locator.space)
+        (both-bytes (four_bytes block.locator.db) (four_bytes block.locator.rel) (number-bytes 4 block.locator.db) (number-bytes 4 block.locator.rel))
 
 part-bytes : (p : Part) → AreBytes (part_text p)
 unfolding part_text
 part-bytes (part.Block block) =
-    both-bytes (byte block.id) (byte block.flags ++ (short block.data_length ++ (image_text block.image ++ (relation_text block ++ long block.block)))) (number-bytes 1 block.id)
-    (both-bytes (byte block.flags) (short block.data_length ++ (image_text block.image ++ (relation_text block ++ long block.block))) (number-bytes 1 block.flags)
-    (both-bytes (short block.data_length) (image_text block.image ++ (relation_text block ++ long block.block)) (number-bytes 2 block.data_length)
-    (both-bytes (image_text block.image) (relation_text block ++ long block.block) (image-bytes block.image)
-    (both-bytes (relation_text block) (long block.block) (relation-bytes block) (number-bytes 4 block.block)))))
-part-bytes (part.Origin origin) = both-bytes (byte 253) (short origin) (number-bytes 1 253) (number-bytes 2 origin)
-part-bytes (part.TopXid xid) = both-bytes (byte 252) (long xid) (number-bytes 1 252) (number-bytes 4 xid)
-part-bytes (part.ShortMain size) = both-bytes (byte 255) (byte size) (number-bytes 1 255) (number-bytes 1 size)
-part-bytes (part.LongMain size) = both-bytes (byte 254) (long size) (number-bytes 1 254) (number-bytes 4 size)
+    both-bytes (one_byte block.id) (one_byte block.flags ++ (two_bytes block.data_length ++ (image_text block.image ++ (relation_text block ++ four_bytes block.block)))) (number-bytes 1 block.id)
+    (both-bytes (one_byte block.flags) (two_bytes block.data_length ++ (image_text block.image ++ (relation_text block ++ four_bytes block.block))) (number-bytes 1 block.flags)
+    (both-bytes (two_bytes block.data_length) (image_text block.image ++ (relation_text block ++ four_bytes block.block)) (number-bytes 2 block.data_length)
+    (both-bytes (image_text block.image) (relation_text block ++ four_bytes block.block) (image-bytes block.image)
+    (both-bytes (relation_text block) (four_bytes block.block) (relation-bytes block) (number-bytes 4 block.block)))))
+part-bytes (part.Origin origin) = both-bytes (one_byte 253) (two_bytes origin) (number-bytes 1 253) (number-bytes 2 origin)
+part-bytes (part.TopXid xid) = both-bytes (one_byte 252) (four_bytes xid) (number-bytes 1 252) (number-bytes 4 xid)
+part-bytes (part.ShortMain size) = both-bytes (one_byte 255) (one_byte size) (number-bytes 1 255) (number-bytes 1 size)
+part-bytes (part.LongMain size) = both-bytes (one_byte 254) (four_bytes size) (number-bytes 1 254) (number-bytes 4 size)
 
 pub parts-bytes : (parts : List Part) → AreBytes (flat_map part_text parts)
 parts-bytes [] = All-nil (λ b. b < 256)

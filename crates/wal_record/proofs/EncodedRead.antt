@@ -16,13 +16,15 @@ use Rattle.wal_record.specs.Record.{Image, Block, Record}
 use Rattle.pg_types.specs.Numbers.{has_bits}
 use Rattle.wal_record.specs.Parts.{image_length, after, start, seen_after}
 use Rattle.wal_record.specs.Decoded.{image_in, block_in, blocks_of}
-use Rattle.wal_record.specs.Spelling.{AreBytes, part_text, ImageAgrees, IsLocator, IsBlock, AreParts, IsSpelling}
-use Rattle.wal_record.specs.New.{flag, image_header_of, same_locator, is_same_relation, flags_of, header_of, block_parts, main_parts, image_bytes, payload_of, spelling_of, is_page_image, IsNewBlock, AreNewBlocks, new_size, HasSizes, image_of, block_of, EncodedIsRead}
+use Rattle.pg_types.specs.Bytes.{AreBytes}
+use Rattle.wal_record.specs.Spelling.{part_text, ImageAgrees, IsLocator, IsBlock, AreParts, IsSpelling}
+use Rattle.wal_record.specs.New.{flag, image_header_of, is_same_relation, flags_of, header_of, block_parts, main_parts, image_bytes, payload_of, spelling_of, is_page_image, IsNewBlock, AreNewBlocks, new_size, HasSizes, image_of, block_of, EncodedIsRead}
 use Rattle.wal_record.proofs.Flags.{FlagsAre, flags-are}
-use Rattle.wal_record.proofs.CrcFits.{both-bytes}
 use Rattle.wal_record.proofs.SpelledWhole.{is_read}
 use Rattle.wal_record.proofs.Written.{total-is}
-use Rattle.wal_record.proofs.Comparisons.{le-true, le-from, lt-from, eq-from, and-parts}
+use Rattle.pg_types.proofs.Bytes.{both-bytes}
+use Rattle.std.proofs.lemmas.Bool.{le-leb, leb-true, ltb-true, eqb-true, and_parts}
+use Rattle.pg_types.proofs.Locators.{same_file}
 
 -- ---- a block's header
 
@@ -58,29 +60,20 @@ info-fits false false = omega arith
 page-by : (a : Bool) (n hole : ℕ) → cond a (nat_lt 0 hole && nat_le hole n) ((n == 8192) && (hole == 0)) ≡ true → a ≡ nat_lt n 8192
     → cond a ((nat_lt 0 hole && nat_lt n 8192) && nat_le (hole + (8192 - n)) 8192) ((n == 8192) && (hole == 0)) ≡ true
 page-by true n hole h e =
-    let parts = and-parts (nat_lt 0 hole) (nat_le hole n) h in
-    let short : n < 8192 = lt-from n 8192 (sym e) in
-    let inside : hole ≤ n = le-from hole n parts.1 in
-    rw (parts.0, ← e, le-true (hole + (8192 - n)) 8192 (omega arith)) refl
+    let parts = and_parts (nat_lt 0 hole) (nat_le hole n) h in
+    let short : n < 8192 = ltb-true n 8192 (sym e) in
+    let inside : hole ≤ n = leb-true hole n parts.1 in
+    rw (parts.0, ← e, le-leb (hole + (8192 - n)) 8192 (omega arith)) refl
 page-by false n hole h e = h
 
 length-by : (a : Bool) (n hole : ℕ) → cond a (nat_lt 0 hole && nat_le hole n) ((n == 8192) && (hole == 0)) ≡ true → a ≡ nat_lt n 8192 → n < 2 ^ 16
-length-by true n hole h e = (let short : n < 8192 = lt-from n 8192 (sym e) in omega arith)
-length-by false n hole h e = (let whole : n ≡ 8192 = eq-from n 8192 (and-parts (n == 8192) (hole == 0) h).0 in omega arith)
-
-locator-same : (a b : Locator) → same_locator a b ≡ true → a ≡ b
-locator-same a b h =
-    let one = and-parts (a.space == b.space) ((a.db == b.db) && (a.rel == b.rel)) h in
-    let two = and-parts (a.db == b.db) (a.rel == b.rel) one.1 in
-    let made : ℕ → ℕ → ℕ → Locator = λ s d r. record { space = s; db = d; rel = r } in
-    ap (λ (s : ℕ). made s a.db a.rel) (eq-from a.space b.space one.0)
-    ∙ ap (λ (d : ℕ). made b.space d a.rel) (eq-from a.db b.db two.0)
-    ∙ ap (λ (r : ℕ). made b.space b.db r) (eq-from a.rel b.rel two.1)
+length-by true n hole h e = (let short : n < 8192 = ltb-true n 8192 (sym e) in omega arith)
+length-by false n hole h e = (let whole : n ≡ 8192 = eqb-true n 8192 (and_parts (n == 8192) (hole == 0) h).0 in omega arith)
 
 relation-by : (before : Option Locator) (locator : Locator) (b : Bool) → b ≡ is_same_relation before locator → IsLocator locator → MatchBool b (before ≡ Some locator) (IsLocator locator)
 relation-by None locator true e is = absurd (cc)
 relation-by None locator false e is = is
-relation-by (Some l) locator true e is = ap (λ (x : Locator). Some x) (locator-same l locator (sym e))
+relation-by (Some l) locator true e is = ap (λ (x : Locator). Some x) (same_file l locator (sym e))
 relation-by (Some l) locator false e is = is
 
 size-by : (b : Bool) (n : ℕ) → b ≡ nat_lt 0 n → cond b (nat_lt 0 n) (n == 0) ≡ true
@@ -128,7 +121,7 @@ new-header seen block is sizes rising =
 main-by : (seen : HeadersRead) (n : ℕ) (none short : Bool) → seen.closed ≡ false → n < 2 ^ 32 → short ≡ nat_le n 255
     → AreParts seen (cond none [] (cond short (part.ShortMain n ∷ []) (part.LongMain n ∷ [])))
 main-by seen n true short closed h e = tt
-main-by seen n false true closed h e = (let small : n ≤ 255 = le-from n 255 (sym e) in (closed, omega arith, tt))
+main-by seen n false true closed h e = (let small : n ≤ 255 = leb-true n 255 (sym e) in (closed, omega arith, tt))
 main-by seen n false false closed h e = (closed, h, tt)
 
 parted : (seen : HeadersRead) (blocks : List NewBlock) (n : ℕ) → seen.closed ≡ false → AreNewBlocks seen.least_id blocks → All HasSizes blocks → n < 2 ^ 32
@@ -144,7 +137,7 @@ parted seen (block ∷ blocks) n closed are sizes h = (
 main-told : (seen : HeadersRead) (n : ℕ) (none short : Bool) → seen.main ≡ 0 → none ≡ (n == 0)
     → ((seen_after seen (cond none [] (cond short (part.ShortMain n ∷ []) (part.LongMain n ∷ [])))).blocks ≡ seen.blocks)
     × ((seen_after seen (cond none [] (cond short (part.ShortMain n ∷ []) (part.LongMain n ∷ [])))).main ≡ n)
-main-told seen n true short h e = (let zero_is : n ≡ 0 = eq-from n 0 (sym e) in (refl, omega arith))
+main-told seen n true short h e = (let zero_is : n ≡ 0 = eqb-true n 0 (sym e) in (refl, omega arith))
 main-told seen n false true h e = (refl, refl)
 main-told seen n false false h e = (refl, refl)
 

@@ -10,7 +10,7 @@ use Rattle.wal_record.specs.Record.{Block, block_by_id}
 use Rattle.wal_record.specs.Parts.{◌>>=◌, part_at, parts_from, parts_of, start, after, seen_after, image_length}
 use Rattle.wal_record.specs.Decoded.{walked_from, announced, IsParted, blocks_of, blocks_in, block_in, block_with_id}
 use Rattle.wal_record.proofs.Walking.{is_done}
-use Rattle.wal_record.proofs.Comparisons.{eq-from}
+use Rattle.std.proofs.lemmas.Bool.{eqb-true}
 
 -- the parts that are left, up to n of them, and the block that is found among them
 pub record Finds (n : ℕ) (seen : HeadersRead) (rest payloads : List ℕ) (id : ℕ) (found : Option Block) : Type 0 where
@@ -190,6 +190,6 @@ is-here {n = n} {seen = seen} {p = p} {behind = behind} {payloads = payloads} {i
     record {
       begins = fits.0;
       fits = fits.1;
-      same_id = eq-from b.id id here.1;
+      same_id = eqb-true b.id id here.1;
       same = found-here b next here.1;
     }

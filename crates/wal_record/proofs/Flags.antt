@@ -1,9 +1,8 @@
 -- The flags of a new block: what each of them says.
 use Rattle.std.proofs.Common.{◌≡◌, ℕ, zero, suc, ◌+◌, ◌<◌, Bool, true, false, ◌&&◌, not, cond, refl, arith, bit_and, nat_lt, inl, inr, ◌==◌}
-use Rattle.std.proofs.lemmas.Bool.{cases_lt}
+use Rattle.std.proofs.lemmas.Bool.{cases_lt, ltb-true, eqb-true, and_parts}
 use Rattle.pg_types.specs.Numbers.{has_bits}
 use Rattle.wal_record.specs.New.{flag}
-use Rattle.wal_record.proofs.Comparisons.{lt-from, eq-from, and-parts}
 
 -- the test holds of each number below n
 abbrev below : (ℕ → Bool) → ℕ → Bool
@@ -17,15 +16,15 @@ both p = p true && p false
 below-at : (p : ℕ → Bool) (n f : ℕ) → below p n ≡ true → f < n → p f ≡ true
 below-at p zero f h lt = absurd (omega arith)
 below-at p (suc n) f h lt =
-    let parts = and-parts (p n) (below p n) h in
+    let parts = and_parts (p n) (below p n) h in
     elim (cases_lt f n) [
       | inl lower ↦ below-at p n f parts.1 lower
       | inr upper ↦ let e : f ≡ n = omega arith in rw e parts.0
     ]
 
 both-at : (p : Bool → Bool) (b : Bool) → both p ≡ true → p b ≡ true
-both-at p true h = (and-parts (p true) (p false) h).0
-both-at p false h = (and-parts (p true) (p false) h).1
+both-at p true h = (and_parts (p true) (p false) h).0
+both-at p false h = (and_parts (p true) (p false) h).1
 
 -- a fork with these flags
 abbrev pub value : ℕ → Bool → Bool → Bool → Bool → ℕ
@@ -54,18 +53,18 @@ truth-from false false h = refl
 
 read-off : (flags fork : ℕ) (image payload init same : Bool) → passes flags fork image payload init same ≡ true → FlagsAre flags fork image payload init same
 read-off flags fork image payload init same h =
-    let a = and-parts (bit_and flags 15 == fork) _ h in
-    let b = and-parts (same_truth (has_bits flags 16) image) _ a.1 in
-    let d = and-parts (same_truth (has_bits flags 32) payload) _ b.1 in
-    let e = and-parts (same_truth (has_bits flags 64) init) _ d.1 in
-    let g = and-parts (same_truth (has_bits flags 128) same) (nat_lt flags 256) e.1 in
+    let a = and_parts (bit_and flags 15 == fork) _ h in
+    let b = and_parts (same_truth (has_bits flags 16) image) _ a.1 in
+    let d = and_parts (same_truth (has_bits flags 32) payload) _ b.1 in
+    let e = and_parts (same_truth (has_bits flags 64) init) _ d.1 in
+    let g = and_parts (same_truth (has_bits flags 128) same) (nat_lt flags 256) e.1 in
     record {
-      fork_is = eq-from (bit_and flags 15) fork a.0;
+      fork_is = eqb-true (bit_and flags 15) fork a.0;
       image_is = truth-from (has_bits flags 16) image b.0;
       payload_is = truth-from (has_bits flags 32) payload d.0;
       init_is = truth-from (has_bits flags 64) init e.0;
       same_is = truth-from (has_bits flags 128) same g.0;
-      fits = lt-from flags 256 g.1;
+      fits = ltb-true flags 256 g.1;
     }
 
 pub flags-are : (fork : ℕ) (image payload init same : Bool) → fork < 16 → FlagsAre (value fork image payload init same) fork image payload init same

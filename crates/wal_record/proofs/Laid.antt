@@ -9,7 +9,7 @@ use Rattle.wal_record.specs.declared.parts.HeadersRead.{HeadersRead}
 use Rattle.wal_record.specs.Record.{Record}
 use Rattle.wal_record.specs.Parts.{parts_of, start, seen_after}
 use Rattle.wal_record.specs.Decoded.{walked_from, walked, laid_out, filled_by, blocks_of, blocks_in}
-use Rattle.wal_record.proofs.Comparisons.{eq-true, eq-false}
+use Rattle.std.proofs.lemmas.Bool.{eq-eqb, ne_eqb}
 
 -- the record of these parts, by what they leave seen
 abbrev pub filled_as : RecordHead → Option (List Part × List ℕ) → HeadersRead × List ℕ → Result Record RecordFault
@@ -38,13 +38,13 @@ laid_out-walked head text x h = read_as head (parts_of text) x h
 
 pub laid_out-unfilled : (head : RecordHead) (text : List ℕ) (seen : HeadersRead) (payloads : List ℕ) → walked text ≡ Some (seen, payloads) → (length payloads ≡ seen.blocks + seen.main → ⊥)
     → laid_out head text ≡ Err Layout
-laid_out-unfilled head text seen payloads h ne = rw (laid_out-walked head text (seen, payloads) h, eq-false (length payloads) (seen.blocks + seen.main) ne) refl
+laid_out-unfilled head text seen payloads h ne = rw (laid_out-walked head text (seen, payloads) h, ne_eqb (length payloads) (seen.blocks + seen.main) ne) refl
 
 pub laid_out-compressed : (head : RecordHead) (text : List ℕ) (seen : HeadersRead) (payloads : List ℕ) → walked text ≡ Some (seen, payloads) → length payloads ≡ seen.blocks + seen.main → seen.compressed ≡ true
     → laid_out head text ≡ Err Compressed
-laid_out-compressed head text seen payloads h e compressed = rw (laid_out-walked head text (seen, payloads) h, eq-true (length payloads) (seen.blocks + seen.main) e, compressed) refl
+laid_out-compressed head text seen payloads h e compressed = rw (laid_out-walked head text (seen, payloads) h, eq-eqb (length payloads) (seen.blocks + seen.main) e, compressed) refl
 
 pub laid_out-ok : (head : RecordHead) (text : List ℕ) (seen : HeadersRead) (payloads : List ℕ) → walked text ≡ Some (seen, payloads) → length payloads ≡ seen.blocks + seen.main → seen.compressed ≡ false
     → laid_out head text ≡ Ok (record { head = head; blocks = blocks_in text payloads; main = drop seen.blocks payloads })
 unfolding blocks_in
-laid_out-ok head text seen payloads h e compressed = rw (laid_out-walked head text (seen, payloads) h, eq-true (length payloads) (seen.blocks + seen.main) e, compressed) refl
+laid_out-ok head text seen payloads h e compressed = rw (laid_out-walked head text (seen, payloads) h, eq-eqb (length payloads) (seen.blocks + seen.main) e, compressed) refl

@@ -9,7 +9,6 @@ pub mod SpelledWhole
 pub mod Flags
 pub mod Written
 pub mod EncodedRead
-pub mod Comparisons
 pub mod OfBytes
 pub mod Shaping
 pub mod Ids

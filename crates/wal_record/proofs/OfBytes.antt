@@ -1,7 +1,7 @@
 -- A record that is read of bytes is of bytes: it is that of a spelling, whose parts are.
 use Rattle.std.proofs.Common.{ℕ, ◌+◌, ◌^◌, ◌<◌, List, [], ◌∷◌, All, Option, Some, None, sym, subst}
-use Rattle.std.specs.Prelude.{drop, take, option_map, IfSome}
-use Rattle.std.proofs.lemmas.List.Elements.{All-cons, All-drop, All-nil, All-take}
+use Rattle.std.specs.Prelude.{drop, option_map, IfSome}
+use Rattle.std.proofs.lemmas.List.Elements.{All-cons, All-nil}
 use Rattle.wal_record.specs.declared.parts.Part.{Part}
 use Rattle.wal_record.specs.declared.parts.Part.TheVariants as part
 use Rattle.wal_record.specs.declared.parts.BlockHeader.{BlockHeader}
@@ -9,15 +9,11 @@ use Rattle.wal_record.specs.declared.parts.ImageHeader.{ImageHeader}
 use Rattle.wal_record.specs.declared.parts.HeadersRead.{HeadersRead}
 use Rattle.wal_record.specs.Parts.{image_length, after, start, seen_after}
 use Rattle.wal_record.specs.Decoded.{block_in, blocks_of, image_in}
-use Rattle.wal_record.specs.Spelling.{AreBytes, AreParts, IsSpelling, Spelling, record_of}
+use Rattle.pg_types.specs.Bytes.{AreBytes}
+use Rattle.wal_record.specs.Spelling.{AreParts, IsSpelling, Spelling, record_of}
 use Rattle.wal_record.specs.OfBytes.{IsBlockOfBytes, IsOfBytes, ReadIsOfBytes}
 use Rattle.wal_record.proofs.SpelledWhole.{is_spelled}
-
-drop-are : (n : ℕ) (bytes : List ℕ) → AreBytes bytes → AreBytes (drop n bytes)
-drop-are n bytes all = All-drop (λ b. b < 256) n bytes all
-
-take-are : (n : ℕ) (bytes : List ℕ) → AreBytes bytes → AreBytes (take n bytes)
-take-are n bytes all = All-take (λ b. b < 256) n bytes all
+use Rattle.pg_types.proofs.Bytes.{drop-are, take-are}
 
 image-are : (image : Option ImageHeader) (payloads : List ℕ) → AreBytes payloads
     → IfSome (option_map (λ image. image_in image payloads) image) (λ image. AreBytes image.bytes)

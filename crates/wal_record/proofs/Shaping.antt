@@ -1,7 +1,6 @@
 -- Where the parts of a record stand in its bytes.
-use Rattle.std.proofs.Common.{◌≡◌, ℕ, zero, suc, ◌+◌, ◌-◌, ◌≤◌, ◌<◌, ◌^◌, false, List, [], ◌∷◌, ◌++◌, get_or, length, drop, Option, Some, None, Result, Ok, Err, option_map, refl, sym, ap, subst, ◌∙◌, arith}
+use Rattle.std.proofs.Common.{◌≡◌, ℕ, ◌+◌, ◌-◌, ◌≤◌, ◌<◌, ◌^◌, false, List, ◌++◌, length, drop, Option, Some, None, Result, Ok, Err, option_map, refl, sym, ap, subst, ◌∙◌, arith}
 use Rattle.std.proofs.lemmas.List.{length-append}
-use Rattle.std.proofs.lemmas.List.Elements.{All-cons, All-nil}
 use Rattle.std.proofs.Math.Seq.{drop-append_seam}
 use Rattle.std.specs.Prelude.{IfOk}
 use Rattle.std.proofs.lemmas.Option.{same_Some}
@@ -14,18 +13,14 @@ use Rattle.wal_record.specs.declared.parts.HeadersRead.{HeadersRead}
 use Rattle.wal_record.specs.declared.view.RecordShape.{RecordShape}
 use Rattle.wal_record.specs.Record.{Record}
 use Rattle.wal_record.specs.Parts.{parts_of, start, seen_after}
-use Rattle.wal_record.specs.Decoded.{walked_from, walked, laid_out, announced, IsParted, fields_of, head_of, whole, decoded}
-use Rattle.wal_record.specs.Spelling.{AreBytes, part_text}
-use Rattle.wal_record.specs.Shapes.{HasShape, IsLaid, SaysLaid, SaysShape, laid_as, shaped}
+use Rattle.wal_record.specs.Decoded.{walked_from, walked, laid_out, IsParted, head_of, whole, decoded}
+use Rattle.pg_types.specs.Bytes.{AreBytes}
+use Rattle.wal_record.specs.Spelling.{part_text}
+use Rattle.wal_record.specs.Shapes.{SaysLaid, SaysShape, laid_as}
 use Rattle.wal_record.proofs.Ids.{ids-below}
 use Rattle.wal_record.proofs.Laid.{laid_out-ok}
 use Rattle.wal_record.proofs.SpelledRecord.{parts-take}
 use Rattle.wal_record.proofs.SpelledWhole.{head-fields}
-
--- a slice's bytes are bytes
-pub bytes-are : (bytes : List ℕ) → ((k : ℕ) → get_or bytes k 0 < 256) → AreBytes bytes
-bytes-are [] small = All-nil (λ b. b < 256)
-bytes-are (b ∷ bytes) small = All-cons (λ b. b < 256) b bytes (small zero) (bytes-are bytes (λ k. small (suc k)))
 
 -- what stands behind a front
 behind : (front rest text : List ℕ) → text ≡ front ++ rest → (length rest ≤ length text) × (drop (length text - length rest) text ≡ rest)
@@ -76,8 +71,8 @@ pub shape-there : (bytes : List ℕ) (at : ℕ) (rule : PrevRule) (head : Record
     → head_of bytes at rule ≡ Ok head → IfOk answer (λ shape. 24 ≤ length bytes) → SaysLaid answer head (drop 24 bytes) (whole head bytes)
     → SaysShape answer bytes (decoded bytes at rule)
 unfolding decoded
-shape-there bytes at rule head (Ok shape) e long says =
+shape-there bytes at rule head (Ok shape) e header_fits says =
     let same = head-fields bytes at rule head e in
     let made : RecordHead → Record = λ h. laid_as h (drop 24 bytes) shape in
-    (rw e (says.0 ∙ ap (λ h. Ok (made h)) same), record { header = long; laid = says.1 })
-shape-there bytes at rule head (Err fault) e long says = rw e says
+    (rw e (says.0 ∙ ap (λ h. Ok (made h)) same), record { header = header_fits; laid = says.1 })
+shape-there bytes at rule head (Err fault) e header_fits says = rw e says

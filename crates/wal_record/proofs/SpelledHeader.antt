@@ -1,17 +1,15 @@
 -- Headers: what is spelled is read, and what is read is spelled.
 use Rattle.std.proofs.Common.{◌≡◌, ℕ, ◌+◌, ◌^◌, ◌<◌, ◌≤◌, List, ◌++◌, length, take, drop, slice_index, refl, ap, ◌∙◌, arith}
 use Rattle.byteorder.specs.Endian.{little_bytes}
-use Rattle.byteorder.specs.Numbers.{little_from-lt}
 use Rattle.std.proofs.lemmas.List.{get_or-drop}
-use Rattle.std.proofs.lemmas.List.Elements.{All-drop}
 use Rattle.pg_types.specs.Numbers.{number_at}
-use Rattle.wal_record.specs.Spelling.{AreBytes, byte, short, long, front_of}
-use Rattle.wal_record.proofs.SpelledParts.{byte-below}
+use Rattle.pg_types.specs.Bytes.{AreBytes}
+use Rattle.wal_record.specs.Spelling.{one_byte, two_bytes, four_bytes, front_of}
 use Rattle.pg_types.proofs.SpelledNumbers.{read_back, spelled_at}
 
 -- a text with a header
 abbrev pub text_of : ℕ → ℕ → ℕ → ℕ → ℕ → ℕ → ℕ → List ℕ → List ℕ
-text_of total xid prev info manager padding crc behind = front_of total xid prev info manager padding ++ (long crc ++ behind)
+text_of total xid prev info manager padding crc behind = front_of total xid prev info manager padding ++ (four_bytes crc ++ behind)
 
 -- what stands where in a text with a header
 pub record HeaderIs (text : List ℕ) (total xid prev info manager padding crc : ℕ) (behind : List ℕ) : Type 0 where
@@ -42,14 +40,9 @@ header-again total xid prev info manager padding crc behind t x p i m d c =
       long_enough = omega arith;
     }
 
--- a number of bytes has its size
-pub number-fits : (n : ℕ) (bytes : List ℕ) (at : ℕ) → AreBytes bytes → number_at n bytes at < 256 ^ n
+number_at-one : (bytes : List ℕ) (at : ℕ) → number_at 1 bytes at ≡ slice_index bytes at
 unfolding number_at
-number-fits n bytes at all = little_from-lt 0 n (drop at bytes) (byte-below (drop at bytes) (All-drop (λ b. b < 256) at bytes all))
-
-one-byte : (bytes : List ℕ) (at : ℕ) → number_at 1 bytes at ≡ slice_index bytes at
-unfolding number_at
-one-byte bytes at =
+number_at-one bytes at =
     let here : slice_index (drop at bytes) 0 ≡ slice_index bytes (at + 0) = get_or-drop at bytes 0 0 in
     let place : slice_index bytes (at + 0) ≡ slice_index bytes at = ap (λ (k : ℕ). slice_index bytes k) (omega arith) in
     omega (arith, here, place)
@@ -61,13 +54,13 @@ header-takes bytes all h =
     let t = spelled_at 4 bytes 0 all (omega arith) in
     let x = spelled_at 4 bytes 4 all (omega arith) in
     let p = spelled_at 8 bytes 8 all (omega arith) in
-    let i = spelled_at 1 bytes 16 all (omega arith) ∙ ap (λ (b : ℕ). byte b ++ drop 17 bytes) (one-byte bytes 16) in
-    let m = spelled_at 1 bytes 17 all (omega arith) ∙ ap (λ (b : ℕ). byte b ++ drop 18 bytes) (one-byte bytes 17) in
+    let i = spelled_at 1 bytes 16 all (omega arith) ∙ ap (λ (b : ℕ). one_byte b ++ drop 17 bytes) (number_at-one bytes 16) in
+    let m = spelled_at 1 bytes 17 all (omega arith) ∙ ap (λ (b : ℕ). one_byte b ++ drop 18 bytes) (number_at-one bytes 17) in
     let d = spelled_at 2 bytes 18 all (omega arith) in
     let c = spelled_at 4 bytes 20 all (omega arith) in
-    t ∙ ap (λ (w : List ℕ). long (number_at 4 bytes 0) ++ w)
-    (x ∙ ap (λ (w : List ℕ). long (number_at 4 bytes 4) ++ w)
+    t ∙ ap (λ (w : List ℕ). four_bytes (number_at 4 bytes 0) ++ w)
+    (x ∙ ap (λ (w : List ℕ). four_bytes (number_at 4 bytes 4) ++ w)
     (p ∙ ap (λ (w : List ℕ). little_bytes 8 (number_at 8 bytes 8) ++ w)
-    (i ∙ ap (λ (w : List ℕ). byte (slice_index bytes 16) ++ w)
-    (m ∙ ap (λ (w : List ℕ). byte (slice_index bytes 17) ++ w)
-    (d ∙ ap (λ (w : List ℕ). short (number_at 2 bytes 18) ++ w) c)))))
+    (i ∙ ap (λ (w : List ℕ). one_byte (slice_index bytes 16) ++ w)
+    (m ∙ ap (λ (w : List ℕ). one_byte (slice_index bytes 17) ++ w)
+    (d ∙ ap (λ (w : List ℕ). two_bytes (number_at 2 bytes 18) ++ w) c)))))

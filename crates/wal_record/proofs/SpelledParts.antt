@@ -1,9 +1,8 @@
 -- A part that is read is the part that was spelled, and what was spelled is read again.
-use Rattle.std.proofs.Common.{◌≡◌, ℕ, ◌^◌, ◌<◌, ◌≤◌, Bool, true, false, ◌||◌, cond, nat_lt, List, [], ◌++◌, length, drop, Option, Some, None, option_map, refl, sym, ap, subst, ◌∙◌, append_assoc, arith, length-append, slice_index, inl, inr, if◌then◌else◌, ◌==◌}
+use Rattle.std.proofs.Common.{◌≡◌, ℕ, ◌^◌, ◌<◌, ◌≤◌, Bool, true, false, ◌||◌, cond, nat_lt, List, [], ◌++◌, length, drop, Option, Some, None, option_map, refl, sym, ap, subst, ◌∙◌, append_assoc, arith, length-append, if◌then◌else◌, ◌==◌}
 use Rattle.std.specs.Prelude.{MatchBool}
 use Rattle.std.proofs.lemmas.Bool.Decides.{nat_tests}
-use Rattle.std.proofs.lemmas.List.{drop_at, take-append-drop, get_or_past}
-use Rattle.std.proofs.lemmas.Bool.{cases_lt}
+use Rattle.std.proofs.lemmas.List.{drop_at, take-append-drop}
 use Rattle.std.proofs.lemmas.List.Elements.{All-drop}
 use Rattle.std.proofs.lemmas.Option.{same_Some}
 use Rattle.byteorder.specs.Endian.{little_bytes, little_number}
@@ -16,9 +15,11 @@ use Rattle.wal_record.specs.declared.parts.BlockHeader.{BlockHeader}
 use Rattle.wal_record.specs.declared.parts.ImageHeader.{ImageHeader}
 use Rattle.wal_record.specs.declared.parts.HeadersRead.{HeadersRead}
 use Rattle.wal_record.specs.Parts.{◌>>=◌, number_from, has_hole, is_compressed, any_compressed, fits_page, data_agrees, image_header, image_behind, image_at, image_from, locator_at, locator_from, flags_at, block_at, block_from, part_from, part_at}
-use Rattle.wal_record.specs.Spelling.{AreBytes, byte, short, long, image_text, locator_text, block_text, part_text, IsImage, ImageAgrees, IsLocator, RelationAgrees, IsBlock, MayFollow}
+use Rattle.pg_types.specs.Bytes.{AreBytes}
+use Rattle.wal_record.specs.Spelling.{one_byte, two_bytes, four_bytes, image_text, locator_text, block_text, part_text, IsImage, ImageAgrees, IsLocator, RelationAgrees, IsBlock, MayFollow}
 use Rattle.pg_types.proofs.SpelledNumbers.{bytes_of_number, read_back}
-use Rattle.wal_record.proofs.Comparisons.{eq-false, eq-from, or-false, or-parts}
+use Rattle.pg_types.proofs.Bytes.{byte-below}
+use Rattle.std.proofs.lemmas.Bool.{ne_eqb, eqb-true, or_from, or_parts}
 
 -- ---- tools
 
@@ -63,13 +64,6 @@ number-again n x rest h =
     let long_enough : nat_lt (length (little_bytes n x ++ rest)) n ≡ false = (let e = length-append (little_bytes n x) rest in let k = length-bytes_low_first 0 n x in grind (arith, nat_tests)) in
     rw (long_enough, read_back n x rest h, drop_at (little_bytes n x) rest n (length-bytes_low_first 0 n x)) refl
 
--- each of bytes is below 256, and so is what stands past their end
-pub byte-below : (bytes : List ℕ) → AreBytes bytes → (i : ℕ) → slice_index bytes i < 256
-byte-below bytes all i = elim (cases_lt i (length bytes)) [
-  | inl lt ↦ all i 0 lt
-  | inr le ↦ rw (get_or_past bytes i 0 le) (omega arith)
-]
-
 pub number-takes : (n : ℕ) (bytes : List ℕ) (y : ℕ × List ℕ) → AreBytes bytes → number_from n bytes ≡ Some y → Takes bytes (little_bytes n y.0) y.1 × (y.0 < 256 ^ n)
 unfolding number_from number_at
 number-takes n bytes y all e =
@@ -86,12 +80,12 @@ number-takes n bytes y all e =
 
 -- ---- images
 
-image_header-again : (image : ImageHeader) (rest : List ℕ) → IsImage image → image_header ((short image.length ++ (short image.hole_at ++ byte image.info)) ++ rest) ≡ Some (image, rest)
+image_header-again : (image : ImageHeader) (rest : List ℕ) → IsImage image → image_header ((two_bytes image.length ++ (two_bytes image.hole_at ++ one_byte image.info)) ++ rest) ≡ Some (image, rest)
 unfolding image_header
 image_header-again image rest is =
-    let regrouped : (short image.length ++ (short image.hole_at ++ byte image.info)) ++ rest ≡ short image.length ++ (short image.hole_at ++ (byte image.info ++ rest)) = simp append_assoc in
+    let regrouped : (two_bytes image.length ++ (two_bytes image.hole_at ++ one_byte image.info)) ++ rest ≡ two_bytes image.length ++ (two_bytes image.hole_at ++ (one_byte image.info ++ rest)) = simp append_assoc in
     ap image_header regrouped
-    ∙ rw (number-again 2 image.length (short image.hole_at ++ (byte image.info ++ rest)) is.length_fits, number-again 2 image.hole_at (byte image.info ++ rest) is.hole_at_fits, number-again 1 image.info rest is.info_fits) refl
+    ∙ rw (number-again 2 image.length (two_bytes image.hole_at ++ (one_byte image.info ++ rest)) is.length_fits, number-again 2 image.hole_at (one_byte image.info ++ rest) is.hole_at_fits, number-again 1 image.info rest is.info_fits) refl
 
 image_from-again : (flags : ℕ) (image : Option ImageHeader) (rest : List ℕ) → ImageAgrees flags image → image_from flags (image_text image ++ rest) ≡ Some (image, rest)
 unfolding image_from image_at image_behind
@@ -109,8 +103,8 @@ image_header-takes bytes y all e =
     let t0 = number-takes 2 bytes a.0 all a.1 in
     let t1 = number-takes 2 a.0.1 b.0 t0.0.rest_are b.1 in
     let t2 = number-takes 1 b.0.1 d.0 t1.0.rest_are d.1 in
-    let t12 = Takes-then a.0.1 (short b.0.0) b.0.1 (byte d.0.0) d.0.1 t1.0 t2.0 in
-    let t02 = Takes-then bytes (short a.0.0) a.0.1 (short b.0.0 ++ byte d.0.0) d.0.1 t0.0 t12 in
+    let t12 = Takes-then a.0.1 (two_bytes b.0.0) b.0.1 (one_byte d.0.0) d.0.1 t1.0 t2.0 in
+    let t02 = Takes-then bytes (two_bytes a.0.0) a.0.1 (two_bytes b.0.0 ++ one_byte d.0.0) d.0.1 t0.0 t12 in
     let made : ImageHeader × List ℕ = (record { length = a.0.0; hole_at = b.0.0; info = d.0.0 }, d.0.1) in
     let P : ImageHeader × List ℕ → Type 0 = λ z. Takes bytes (image_text (Some z.0)) z.1 × (z.0.length < 2 ^ 16) × (z.0.hole_at < 2 ^ 16) × (z.0.info < 2 ^ 8) in
     subst P (same_Some made y d.2) (t02, t0.1, t1.1, t2.1)
@@ -170,9 +164,9 @@ image_from-takes flags bytes y all e plain =
 locator_at-again : (locator : Locator) (rest : List ℕ) → IsLocator locator → locator_at (locator_text locator ++ rest) ≡ Some (locator, rest)
 unfolding locator_at
 locator_at-again locator rest is =
-    let regrouped : locator_text locator ++ rest ≡ long locator.space ++ (long locator.db ++ (long locator.rel ++ rest)) = simp append_assoc in
+    let regrouped : locator_text locator ++ rest ≡ four_bytes locator.space ++ (four_bytes locator.db ++ (four_bytes locator.rel ++ rest)) = simp append_assoc in
     ap locator_at regrouped
-    ∙ rw (number-again 4 locator.space (long locator.db ++ (long locator.rel ++ rest)) is.space, number-again 4 locator.db (long locator.rel ++ rest) is.db, number-again 4 locator.rel rest is.rel) refl
+    ∙ rw (number-again 4 locator.space (four_bytes locator.db ++ (four_bytes locator.rel ++ rest)) is.space, number-again 4 locator.db (four_bytes locator.rel ++ rest) is.db, number-again 4 locator.rel rest is.rel) refl
 
 locator_at-takes : (bytes : List ℕ) (y : Locator × List ℕ) → AreBytes bytes → locator_at bytes ≡ Some y → Takes bytes (locator_text y.0) y.1 × IsLocator y.0
 unfolding locator_at
@@ -183,8 +177,8 @@ locator_at-takes bytes y all e =
     let t0 = number-takes 4 bytes a.0 all a.1 in
     let t1 = number-takes 4 a.0.1 b.0 t0.0.rest_are b.1 in
     let t2 = number-takes 4 b.0.1 d.0 t1.0.rest_are d.1 in
-    let t12 = Takes-then a.0.1 (long b.0.0) b.0.1 (long d.0.0) d.0.1 t1.0 t2.0 in
-    let t02 = Takes-then bytes (long a.0.0) a.0.1 (long b.0.0 ++ long d.0.0) d.0.1 t0.0 t12 in
+    let t12 = Takes-then a.0.1 (four_bytes b.0.0) b.0.1 (four_bytes d.0.0) d.0.1 t1.0 t2.0 in
+    let t02 = Takes-then bytes (four_bytes a.0.0) a.0.1 (four_bytes b.0.0 ++ four_bytes d.0.0) d.0.1 t0.0 t12 in
     let made : Locator × List ℕ = (record { space = a.0.0; db = b.0.0; rel = d.0.0 }, d.0.1) in
     let P : Locator × List ℕ → Type 0 = λ z. Takes bytes (locator_text z.0) z.1 × IsLocator z.0 in
     subst P (same_Some made y d.2) (t02, record { space = t0.1; db = t1.1; rel = t2.1 })
@@ -223,13 +217,13 @@ locator_from-takes before flags bytes y all e = by-flag (has_bits flags 128) e
 
 -- ---- blocks
 
-flags_at-again : (flags size : ℕ) (rest : List ℕ) → flags < 2 ^ 8 → size < 2 ^ 16 → data_agrees flags size ≡ true → flags_at (byte flags ++ (short size ++ rest)) ≡ Some ((flags, size), rest)
+flags_at-again : (flags size : ℕ) (rest : List ℕ) → flags < 2 ^ 8 → size < 2 ^ 16 → data_agrees flags size ≡ true → flags_at (one_byte flags ++ (two_bytes size ++ rest)) ≡ Some ((flags, size), rest)
 unfolding flags_at
 flags_at-again flags size rest f s agrees =
-    rw (number-again 1 flags (short size ++ rest) f, number-again 2 size rest s, agrees) refl
+    rw (number-again 1 flags (two_bytes size ++ rest) f, number-again 2 size rest s, agrees) refl
 
 flags_at-takes : (bytes : List ℕ) (y : (ℕ × ℕ) × List ℕ) → AreBytes bytes → flags_at bytes ≡ Some y
-    → Takes bytes (byte y.0.0 ++ short y.0.1) y.1 × (y.0.0 < 2 ^ 8) × (y.0.1 < 2 ^ 16) × (data_agrees y.0.0 y.0.1 ≡ true)
+    → Takes bytes (one_byte y.0.0 ++ two_bytes y.0.1) y.1 × (y.0.0 < 2 ^ 8) × (y.0.1 < 2 ^ 16) × (data_agrees y.0.0 y.0.1 ≡ true)
 unfolding flags_at
 flags_at-takes bytes y all e =
     let a = bind_some (number_from 1 bytes) (λ flags. number_from 2 flags.1 >>= λ size. cond (data_agrees flags.0 size.0) (Some ((flags.0, size.0), size.1)) None) y e in
@@ -238,20 +232,20 @@ flags_at-takes bytes y all e =
     let g = guard_held (data_agrees a.0.0 b.0.0) (Some made) y b.2 in
     let t0 = number-takes 1 bytes a.0 all a.1 in
     let t1 = number-takes 2 a.0.1 b.0 t0.0.rest_are b.1 in
-    let P : (ℕ × ℕ) × List ℕ → Type 0 = λ z. Takes bytes (byte z.0.0 ++ short z.0.1) z.1 × (z.0.0 < 2 ^ 8) × (z.0.1 < 2 ^ 16) × (data_agrees z.0.0 z.0.1 ≡ true) in
-    subst P (same_Some made y g.1) (Takes-then bytes (byte a.0.0) a.0.1 (short b.0.0) b.0.1 t0.0 t1.0, t0.1, t1.1, g.0)
+    let P : (ℕ × ℕ) × List ℕ → Type 0 = λ z. Takes bytes (one_byte z.0.0 ++ two_bytes z.0.1) z.1 × (z.0.0 < 2 ^ 8) × (z.0.1 < 2 ^ 16) × (data_agrees z.0.0 z.0.1 ≡ true) in
+    subst P (same_Some made y g.1) (Takes-then bytes (one_byte a.0.0) a.0.1 (two_bytes b.0.0) b.0.1 t0.0 t1.0, t0.1, t1.1, g.0)
 
 block_at-again : (seen : HeadersRead) (block : BlockHeader) (rest : List ℕ) → IsBlock seen block → block_at seen.locator block.id (block_text block ++ rest) ≡ Some (block, rest)
 unfolding block_at
 block_at-again seen block rest is =
     let image = image_text block.image in
     let relation = relation_spelled block.flags block.locator in
-    let regrouped : block_text block ++ rest ≡ byte block.flags ++ (short block.data_length ++ (image ++ (relation ++ (long block.block ++ rest)))) = simp append_assoc in
+    let regrouped : block_text block ++ rest ≡ one_byte block.flags ++ (two_bytes block.data_length ++ (image ++ (relation ++ (four_bytes block.block ++ rest)))) = simp append_assoc in
     ap (block_at seen.locator block.id) regrouped
     ∙ rw (
-      flags_at-again block.flags block.data_length (image ++ (relation ++ (long block.block ++ rest))) is.flags_fit is.size_fits is.size_agrees,
-      image_from-again block.flags block.image (relation ++ (long block.block ++ rest)) is.image,
-      locator_from-again seen.locator block.flags block.locator (long block.block ++ rest) is.relation,
+      flags_at-again block.flags block.data_length (image ++ (relation ++ (four_bytes block.block ++ rest))) is.flags_fit is.size_fits is.size_agrees,
+      image_from-again block.flags block.image (relation ++ (four_bytes block.block ++ rest)) is.image,
+      locator_from-again seen.locator block.flags block.locator (four_bytes block.block ++ rest) is.relation,
       number-again 4 block.block rest is.block_fits,
     ) refl
 
@@ -284,10 +278,10 @@ block_at-takes before id bytes y all e plain =
     let t1 = image_from-takes a.0.0.0 a.0.1 b.0 t0.0.rest_are b.1 (subst Q (sym same) plain) in
     let t2 = locator_from-takes before a.0.0.0 b.0.1 d.0 t1.0.rest_are d.1 in
     let t3 = number-takes 4 d.0.1 f.0 t2.0.rest_are f.1 in
-    let t23 = Takes-then b.0.1 (relation_spelled a.0.0.0 d.0.0) d.0.1 (long f.0.0) f.0.1 t2.0 t3.0 in
-    let t13 = Takes-then a.0.1 (image_text b.0.0) b.0.1 (relation_spelled a.0.0.0 d.0.0 ++ long f.0.0) f.0.1 t1.0 t23 in
-    let t03 = Takes-then bytes (byte a.0.0.0 ++ short a.0.0.1) a.0.1 (image_text b.0.0 ++ (relation_spelled a.0.0.0 d.0.0 ++ long f.0.0)) f.0.1 t0.0 t13 in
-    let grouped : (byte a.0.0.0 ++ short a.0.0.1) ++ (image_text b.0.0 ++ (relation_spelled a.0.0.0 d.0.0 ++ long f.0.0)) ≡ block_text header = append_assoc (byte a.0.0.0) (short a.0.0.1) _ in
+    let t23 = Takes-then b.0.1 (relation_spelled a.0.0.0 d.0.0) d.0.1 (four_bytes f.0.0) f.0.1 t2.0 t3.0 in
+    let t13 = Takes-then a.0.1 (image_text b.0.0) b.0.1 (relation_spelled a.0.0.0 d.0.0 ++ four_bytes f.0.0) f.0.1 t1.0 t23 in
+    let t03 = Takes-then bytes (one_byte a.0.0.0 ++ two_bytes a.0.0.1) a.0.1 (image_text b.0.0 ++ (relation_spelled a.0.0.0 d.0.0 ++ four_bytes f.0.0)) f.0.1 t0.0 t13 in
+    let grouped : (one_byte a.0.0.0 ++ two_bytes a.0.0.1) ++ (image_text b.0.0 ++ (relation_spelled a.0.0.0 d.0.0 ++ four_bytes f.0.0)) ≡ block_text header = append_assoc (one_byte a.0.0.0) (two_bytes a.0.0.1) _ in
     let whole : Takes bytes (block_text header) f.0.1 = (let R : List ℕ → Type 0 = λ text. Takes bytes text f.0.1 in subst R grouped t03) in
     let P : BlockHeader × List ℕ → Type 0 = λ z. Takes bytes (block_text z.0) z.1 × IsBody before z.0 × (z.0.id ≡ id) in
     subst P same (whole, record { flags_fit = t0.1; size_fits = t0.2; size_agrees = t0.3; image = t1.1; relation = t2.1; block_fits = t3.1 }, refl)
@@ -299,30 +293,30 @@ unfolding block_from
 block_from-again seen block rest is =
     let low : nat_lt block.id seen.least_id ≡ false = (let h = is.rising in grind (arith, nat_tests)) in
     let high : nat_lt 32 block.id ≡ false = (let h = is.id_fits in grind (arith, nat_tests)) in
-    rw (or-false (nat_lt block.id seen.least_id) (nat_lt 32 block.id) low high, block_at-again seen block rest is) refl
+    rw (or_from (nat_lt block.id seen.least_id) (nat_lt 32 block.id) low high, block_at-again seen block rest is) refl
 
 part_from-block : (seen : HeadersRead) (id : ℕ) (text : List ℕ) → id ≤ 32 → part_from seen id text ≡ block_from seen id text
 unfolding part_from
-part_from-block seen id text h = rw (eq-false id 255 (λ e. omega arith), eq-false id 254 (λ e. omega arith), eq-false id 253 (λ e. omega arith), eq-false id 252 (λ e. omega arith)) refl
+part_from-block seen id text h = rw (ne_eqb id 255 (λ e. omega arith), ne_eqb id 254 (λ e. omega arith), ne_eqb id 253 (λ e. omega arith), ne_eqb id 252 (λ e. omega arith)) refl
 
 pub part_at-again : (seen : HeadersRead) (p : Part) (rest : List ℕ) → MayFollow seen p → part_at seen (part_text p ++ rest) ≡ Some (p, rest)
 unfolding part_at part_text part_from
 part_at-again seen (part.Block block) rest is =
     let fits = is.id_fits in
-    ap (part_at seen) (append_assoc (byte block.id) (block_text block) rest)
+    ap (part_at seen) (append_assoc (one_byte block.id) (block_text block) rest)
     ∙ rw (number-again 1 block.id (block_text block ++ rest) (omega arith)) (part_from-block seen block.id (block_text block ++ rest) is.id_fits ∙ block_from-again seen block rest is)
 part_at-again seen (part.Origin origin) rest is =
-    ap (part_at seen) (append_assoc (byte 253) (short origin) rest)
-    ∙ rw (number-again 1 253 (short origin ++ rest) (omega arith), number-again 2 origin rest is) refl
+    ap (part_at seen) (append_assoc (one_byte 253) (two_bytes origin) rest)
+    ∙ rw (number-again 1 253 (two_bytes origin ++ rest) (omega arith), number-again 2 origin rest is) refl
 part_at-again seen (part.TopXid xid) rest is =
-    ap (part_at seen) (append_assoc (byte 252) (long xid) rest)
-    ∙ rw (number-again 1 252 (long xid ++ rest) (omega arith), number-again 4 xid rest is) refl
+    ap (part_at seen) (append_assoc (one_byte 252) (four_bytes xid) rest)
+    ∙ rw (number-again 1 252 (four_bytes xid ++ rest) (omega arith), number-again 4 xid rest is) refl
 part_at-again seen (part.ShortMain size) rest is =
-    ap (part_at seen) (append_assoc (byte 255) (byte size) rest)
-    ∙ rw (number-again 1 255 (byte size ++ rest) (omega arith), number-again 1 size rest is) refl
+    ap (part_at seen) (append_assoc (one_byte 255) (one_byte size) rest)
+    ∙ rw (number-again 1 255 (one_byte size ++ rest) (omega arith), number-again 1 size rest is) refl
 part_at-again seen (part.LongMain size) rest is =
-    ap (part_at seen) (append_assoc (byte 254) (long size) rest)
-    ∙ rw (number-again 1 254 (long size ++ rest) (omega arith), number-again 4 size rest is) refl
+    ap (part_at seen) (append_assoc (one_byte 254) (four_bytes size) rest)
+    ∙ rw (number-again 1 254 (four_bytes size ++ rest) (omega arith), number-again 4 size rest is) refl
 
 -- the part has a compressed image
 abbrev pub has_compressed : Part → Bool
@@ -334,16 +328,16 @@ has_compressed (part.LongMain size) = false
 
 -- a part behind its id
 abbrev TakesPart : HeadersRead → ℕ → List ℕ → Part × List ℕ → Type 0
-TakesPart seen id text y = Takes (byte id ++ text) (part_text y.0) y.1 × MayFollow seen y.0
+TakesPart seen id text y = Takes (one_byte id ++ text) (part_text y.0) y.1 × MayFollow seen y.0
 
-with-id : (id : ℕ) (text spelling rest : List ℕ) → Takes text spelling rest → Takes (byte id ++ text) (byte id ++ spelling) rest
-with-id id text spelling rest t = record { parts = ap (λ (x : List ℕ). byte id ++ x) t.parts ∙ sym (append_assoc (byte id) spelling rest); rest_are = t.rest_are }
+with-id : (id : ℕ) (text spelling rest : List ℕ) → Takes text spelling rest → Takes (one_byte id ++ text) (one_byte id ++ spelling) rest
+with-id id text spelling rest t = record { parts = ap (λ (x : List ℕ). one_byte id ++ x) t.parts ∙ sym (append_assoc (one_byte id) spelling rest); rest_are = t.rest_are }
 
 block_from-takes : (seen : HeadersRead) (id : ℕ) (text : List ℕ) (y : Part × List ℕ) → AreBytes text → block_from seen id text ≡ Some y → has_compressed y.0 ≡ false → TakesPart seen id text y
 unfolding block_from part_text
 block_from-takes seen id text y all e plain =
     let g = guard_passed (nat_lt id seen.least_id || nat_lt 32 id) (option_map {U = Part × List ℕ} (λ block. (part.Block block.0, block.1)) (block_at seen.locator id text)) y e in
-    let tests = or-parts (nat_lt id seen.least_id) (nat_lt 32 id) g.0 in
+    let tests = or_parts (nat_lt id seen.least_id) (nat_lt 32 id) g.0 in
     let m = map_some (block_at seen.locator id text) (λ (block : BlockHeader × List ℕ). (part.Block block.0, block.1)) y g.1 in
     let made : Part × List ℕ = (part.Block m.0.0, m.0.1) in
     let same : made ≡ y = m.2 in
@@ -351,7 +345,7 @@ block_from-takes seen id text y all e plain =
     let t = block_at-takes seen.locator id text m.0 all m.1 (subst Q (sym same) plain) in
     let low : seen.least_id ≤ m.0.0.id = (let h = tests.0 in let k = t.2 in rw k (grind (arith, nat_tests))) in
     let high : m.0.0.id ≤ 32 = (let h = tests.1 in let k = t.2 in rw k (grind (arith, nat_tests))) in
-    let taken : Takes (byte id ++ text) (byte m.0.0.id ++ block_text m.0.0) m.0.1 = (let R : ℕ → Type 0 = λ i. Takes (byte id ++ text) (byte i ++ block_text m.0.0) m.0.1 in subst R (sym t.2) (with-id id text (block_text m.0.0) m.0.1 t.0)) in
+    let taken : Takes (one_byte id ++ text) (one_byte m.0.0.id ++ block_text m.0.0) m.0.1 = (let R : ℕ → Type 0 = λ i. Takes (one_byte id ++ text) (one_byte i ++ block_text m.0.0) m.0.1 in subst R (sym t.2) (with-id id text (block_text m.0.0) m.0.1 t.0)) in
     let P : Part × List ℕ → Type 0 = λ z. TakesPart seen id text z in
     subst P same (
       taken,
@@ -370,15 +364,15 @@ block_from-takes seen id text y all e plain =
 -- a part that is one number behind its id
 number-part : (seen : HeadersRead) (n known : ℕ) (make : ℕ → Part) (id : ℕ) (text : List ℕ) (y : Part × List ℕ) → AreBytes text → (id == known) ≡ true
     → option_map {U = Part × List ℕ} (λ (x : ℕ × List ℕ). (make x.0, x.1)) (number_from n text) ≡ Some y
-    → ((x : ℕ) → part_text (make x) ≡ byte known ++ little_bytes n x) → ((x : ℕ) → x < 256 ^ n → MayFollow seen (make x)) → TakesPart seen id text y
+    → ((x : ℕ) → part_text (make x) ≡ one_byte known ++ little_bytes n x) → ((x : ℕ) → x < 256 ^ n → MayFollow seen (make x)) → TakesPart seen id text y
 number-part seen n known make id text y all is e spelling follows =
     let m = map_some (number_from n text) (λ (x : ℕ × List ℕ). (make x.0, x.1)) y e in
     let t = number-takes n text m.0 all m.1 in
     let made : Part × List ℕ = (make m.0.0, m.0.1) in
     let same : made ≡ y = m.2 in
-    let known_id : id ≡ known = eq-from id known is in
-    let taken : Takes (byte id ++ text) (part_text (make m.0.0)) m.0.1 = (let R : ℕ → Type 0 = λ i. Takes (byte i ++ text) (part_text (make m.0.0)) m.0.1 in
-    subst R (sym known_id) (let S : List ℕ → Type 0 = λ w. Takes (byte known ++ text) w m.0.1 in subst S (sym (spelling m.0.0)) (with-id known text (little_bytes n m.0.0) m.0.1 t.0))) in
+    let known_id : id ≡ known = eqb-true id known is in
+    let taken : Takes (one_byte id ++ text) (part_text (make m.0.0)) m.0.1 = (let R : ℕ → Type 0 = λ i. Takes (one_byte i ++ text) (part_text (make m.0.0)) m.0.1 in
+    subst R (sym known_id) (let S : List ℕ → Type 0 = λ w. Takes (one_byte known ++ text) w m.0.1 in subst S (sym (spelling m.0.0)) (with-id known text (little_bytes n m.0.0) m.0.1 t.0))) in
     let P : Part × List ℕ → Type 0 = λ z. TakesPart seen id text z in
     subst P same (taken, follows m.0.0 t.1)
 

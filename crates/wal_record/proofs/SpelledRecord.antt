@@ -13,11 +13,12 @@ use Rattle.wal_record.specs.Record.{Record}
 use Rattle.wal_record.specs.Parts.{◌>>=◌, any_compressed, part_at, parts_from, parts_of, start, after, seen_after}
 use Rattle.wal_record.specs.Decoded.{filled, filled_by, laid_out, blocks_of}
 use Rattle.wal_record.specs.declared.parts.ImageHeader.{ImageHeader}
-use Rattle.wal_record.specs.Spelling.{AreBytes, part_text, ImageAgrees, MayFollow, AreParts}
+use Rattle.pg_types.specs.Bytes.{AreBytes}
+use Rattle.wal_record.specs.Spelling.{part_text, ImageAgrees, MayFollow, AreParts}
 use Rattle.wal_record.proofs.Walking.{is_done, done-closed, done-full, done-false}
 use Rattle.wal_record.proofs.Finding.{blocks-after, blocks-seen_after}
 use Rattle.wal_record.proofs.SpelledParts.{bind_some, Takes, Takes-then, has_compressed, part_at-again, part_at-takes}
-use Rattle.wal_record.proofs.Comparisons.{eq-true, eq-from, not-false, or-parts}
+use Rattle.std.proofs.lemmas.Bool.{eq-eqb, eqb-true, not-false, or_parts}
 
 -- ---- the parts of a record
 
@@ -70,7 +71,7 @@ parts-again (suc n) seen (p ∷ parts) payloads le are last e =
 
 -- once an image was compressed, one was
 compressed-after : (seen : HeadersRead) (p : Part) → (after seen p).compressed ≡ false → (seen.compressed ≡ false) × (has_compressed p ≡ false)
-compressed-after seen (part.Block block) h = or-parts seen.compressed (any_compressed block.image) h
+compressed-after seen (part.Block block) h = or_parts seen.compressed (any_compressed block.image) h
 compressed-after seen (part.Origin origin) h = (h, refl)
 compressed-after seen (part.TopXid xid) h = (h, refl)
 compressed-after seen (part.ShortMain size) h = (h, refl)
@@ -108,7 +109,7 @@ parts-take (suc n) seen bytes y all e plain =
           let t0 = part_at-takes seen bytes a.0 all a.1 plain_first.1 in
           let t1 = parts-take n (after seen a.0.0) a.0.1 b.0 t0.0.rest_are b.1 plain_all in
           let both = Takes-then bytes (part_text a.0.0) a.0.1 (flat_map part_text b.0.0) b.0.1 t0.0 t1.0 in
-          let open_ : seen.closed ≡ false = (or-parts seen.closed (nat_le (length bytes) seen.blocks) w.0).0 in
+          let open_ : seen.closed ≡ false = (or_parts seen.closed (nat_le (length bytes) seen.blocks) w.0).0 in
           subst P same (rw flat_map-cons both, (open_, t0.1, t1.1))
     ]
 
@@ -134,7 +135,7 @@ pub laid_out-again : (head : RecordHead) (parts : List Part) (payloads : List �
 unfolding laid_out
 laid_out-again head parts payloads are e =
     let read = parts-again (length (flat_map part_text parts ++ payloads)) start parts payloads (omega (arith, texts-long parts, length-append (flat_map part_text parts) payloads)) are (λ _. refl) e in
-    rw (read, eq-true (length payloads) ((seen_after start parts).blocks + (seen_after start parts).main) e, plain-seen_after start parts are refl) refl
+    rw (read, eq-eqb (length payloads) ((seen_after start parts).blocks + (seen_after start parts).main) e, plain-seen_after start parts are refl) refl
 
 -- a text that is a record's is the headers of parts and their payloads
 pub record Laid (head : RecordHead) (text : List ℕ) (r : Record) : Type 0 where
@@ -160,7 +161,7 @@ filled-ok head parts payloads r e =
     let made : Record = record { head = head; blocks = blocks_of parts payloads; main = drop seen.blocks payloads } in
     let a = guard_ok (not (length payloads == seen.blocks + seen.main)) Layout (cond seen.compressed (Err Compressed) (Ok made)) r e in
     let b = guard_ok seen.compressed Compressed (Ok made) r a.1 in
-    (eq-from (length payloads) (seen.blocks + seen.main) (not-false _ a.0), b.0, sym (same_Ok made r b.1))
+    (eqb-true (length payloads) (seen.blocks + seen.main) (not-false _ a.0), b.0, sym (same_Ok made r b.1))
 
 laid-by : (head : RecordHead) (text : List ℕ) (r : Record) (read : Option (List Part × List ℕ)) → AreBytes text → parts_of text ≡ read → filled_by head read ≡ Ok r → Laid head text r
 laid-by head text r None all e h = absurd (cc)

@@ -12,19 +12,20 @@ use Rattle.wal_record.specs.declared.types.RecordFault.TheVariants.{Zero, Short,
 use Rattle.wal_record.specs.Record.{Record}
 use Rattle.wal_record.specs.Parts.{start, seen_after}
 use Rattle.wal_record.specs.Decoded.{◌>>=◌, total_at, fields_of, is_unknown_manager, may_link, tested, head_of, has_right_crc, laid_out, whole, decoded, blocks_of}
-use Rattle.wal_record.specs.Spelling.{AreBytes, byte, short, long, part_text, Spelling, IsSpelling, behind_header, total_of, front_of, before_crc, spelled, record_of, SpelledIsRead, ReadIsSpelled}
-use Rattle.wal_record.proofs.SpelledHeader.{text_of, HeaderIs, header-again, header-takes, number-fits}
-use Rattle.wal_record.proofs.SpelledParts.{byte-below}
+use Rattle.pg_types.specs.Bytes.{AreBytes}
+use Rattle.wal_record.specs.Spelling.{one_byte, two_bytes, four_bytes, part_text, Spelling, IsSpelling, behind_header, total_of, front_of, before_crc, spelled, record_of, SpelledIsRead, ReadIsSpelled}
+use Rattle.wal_record.proofs.SpelledHeader.{text_of, HeaderIs, header-again, header-takes}
 use Rattle.wal_record.proofs.SpelledRecord.{laid_out-again, Laid, laid_out-takes, guard_ok}
-use Rattle.wal_record.proofs.CrcFits.{crc-fits, number-bytes, both-bytes, parts-bytes}
-use Rattle.wal_record.proofs.Comparisons.{lt-false, not-lt-from, eq-true, eq-false, eq-from, not-false}
+use Rattle.wal_record.proofs.CrcFits.{crc-fits, parts-bytes}
+use Rattle.pg_types.proofs.Bytes.{both-bytes, byte-below, number-bytes, number-fits}
+use Rattle.std.proofs.lemmas.Bool.{le-ltb, ltb-false, eq-eqb, ne_eqb, eqb-true, not-false}
 
 -- ---- what is spelled is read
 
 total_at-again : (text : List ℕ) (total : ℕ) → number_at 4 text 0 ≡ total → 24 ≤ total → 4 ≤ length text → total_at text ≡ Ok total
 unfolding total_at
 total_at-again text total e h long_enough =
-    rw (lt-false (length text) 4 long_enough, e, eq-false total 0 (λ z. omega arith), lt-false total 24 h) refl
+    rw (le-ltb (length text) 4 long_enough, e, ne_eqb total 0 (λ z. omega arith), le-ltb total 24 h) refl
 
 head_of-again : (text : List ℕ) (at : ℕ) (rule : PrevRule) (total xid prev info manager padding crc : ℕ) (behind : List ℕ) → HeaderIs text total xid prev info manager padding crc behind
     → 24 ≤ total → total ≤ 67108864 → is_unknown_manager manager ≡ false → may_link rule at prev ≡ true
@@ -32,13 +33,13 @@ head_of-again : (text : List ℕ) (at : ℕ) (rule : PrevRule) (total xid prev i
 unfolding head_of fields_of tested
 head_of-again text at rule total xid prev info manager padding crc behind h low high known link =
     let long_enough = h.long_enough in
-    rw (total_at-again text total h.total_is low (omega arith), lt-false (length text) 18 (omega arith), h.total_is, h.xid_is, h.prev_is, h.info_is, h.manager_is, known, link, lt-false 67108864 total high) refl
+    rw (total_at-again text total h.total_is low (omega arith), le-ltb (length text) 18 (omega arith), h.total_is, h.xid_is, h.prev_is, h.info_is, h.manager_is, known, link, le-ltb 67108864 total high) refl
 
 decoded-again : (text : List ℕ) (at : ℕ) (rule : PrevRule) (head : RecordHead) (front behind : List ℕ) → head_of text at rule ≡ Ok head → length text ≡ head.total
     → take 20 text ≡ front → drop 24 text ≡ behind → number_at 4 text 20 ≡ crc32c_of (behind ++ front) → decoded text at rule ≡ laid_out head behind
 unfolding decoded whole
 decoded-again text at rule head front behind h long_enough f b crc =
-    rw (h, eq-true (length text) head.total long_enough, b, f, eq-true (number_at 4 text 20) (crc32c_of (behind ++ front)) crc) refl
+    rw (h, eq-eqb (length text) head.total long_enough, b, f, eq-eqb (number_at 4 text 20) (crc32c_of (behind ++ front)) crc) refl
 
 pub is_read : SpelledIsRead
 unfolding spelled
@@ -46,11 +47,11 @@ is_read s at rule is link =
     let crc = crc32c_of (behind_header s ++ before_crc s) in
     let total_fits = is.total_fits in
     let behind_are : AreBytes (behind_header s) = both-bytes (flat_map part_text s.parts) s.payloads (parts-bytes s.parts) is.bytes in
-    let front_are : AreBytes (before_crc s) = both-bytes (long (total_of s)) (long s.xid ++ (little_bytes 8 s.prev ++ (byte s.info ++ (byte s.manager ++ short s.padding)))) (number-bytes 4 (total_of s))
-    (both-bytes (long s.xid) (little_bytes 8 s.prev ++ (byte s.info ++ (byte s.manager ++ short s.padding))) (number-bytes 4 s.xid)
-    (both-bytes (little_bytes 8 s.prev) (byte s.info ++ (byte s.manager ++ short s.padding)) (number-bytes 8 s.prev)
-    (both-bytes (byte s.info) (byte s.manager ++ short s.padding) (number-bytes 1 s.info)
-    (both-bytes (byte s.manager) (short s.padding) (number-bytes 1 s.manager) (number-bytes 2 s.padding))))) in
+    let front_are : AreBytes (before_crc s) = both-bytes (four_bytes (total_of s)) (four_bytes s.xid ++ (little_bytes 8 s.prev ++ (one_byte s.info ++ (one_byte s.manager ++ two_bytes s.padding)))) (number-bytes 4 (total_of s))
+    (both-bytes (four_bytes s.xid) (little_bytes 8 s.prev ++ (one_byte s.info ++ (one_byte s.manager ++ two_bytes s.padding))) (number-bytes 4 s.xid)
+    (both-bytes (little_bytes 8 s.prev) (one_byte s.info ++ (one_byte s.manager ++ two_bytes s.padding)) (number-bytes 8 s.prev)
+    (both-bytes (one_byte s.info) (one_byte s.manager ++ two_bytes s.padding) (number-bytes 1 s.info)
+    (both-bytes (one_byte s.manager) (two_bytes s.padding) (number-bytes 1 s.manager) (number-bytes 2 s.padding))))) in
     let h = header-again (total_of s) s.xid s.prev s.info s.manager s.padding crc (behind_header s) (omega arith) is.xid_fits is.prev_fits is.info_fits is.manager_fits is.padding_fits
     (crc-fits (behind_header s ++ before_crc s) (both-bytes (behind_header s) (before_crc s) behind_are front_are)) in
     let text = text_of (total_of s) s.xid s.prev s.info s.manager s.padding crc (behind_header s) in
@@ -80,7 +81,7 @@ total_at-takes bytes total e =
     let a = guard_ok (nat_lt (length bytes) 4) Layout (cond (number_at 4 bytes 0 == 0) (Err Zero) (cond (nat_lt (number_at 4 bytes 0) 24) (Err Short) (Ok (number_at 4 bytes 0)))) total e in
     let b = guard_ok (number_at 4 bytes 0 == 0) Zero (cond (nat_lt (number_at 4 bytes 0) 24) (Err Short) (Ok (number_at 4 bytes 0))) total a.1 in
     let c = guard_ok (nat_lt (number_at 4 bytes 0) 24) Short (Ok (number_at 4 bytes 0)) total b.1 in
-    not-lt-from (number_at 4 bytes 0) 24 c.0
+    ltb-false (number_at 4 bytes 0) 24 c.0
 
 same_head : (x y : RecordHead) → ◌≡◌ {A = Result RecordHead RecordFault} (Ok x) (Ok y) → x ≡ y
 same_head x y e = cc
@@ -98,7 +99,7 @@ head_of-takes bytes at rule head e =
       low = total_at-takes bytes a.0 a.1;
       known = m.0;
       link = not-false (may_link rule at (number_at 8 bytes 8)) p.0;
-      high = not-lt-from 67108864 (number_at 4 bytes 0) t.0;
+      high = ltb-false 67108864 (number_at 4 bytes 0) t.0;
       is = sym (same_head found head t.1);
     }
 
@@ -118,8 +119,8 @@ whole-takes head bytes r e =
     let a = guard_ok (not (length bytes == head.total)) Layout (cond (not (has_right_crc bytes)) (Err Crc) (laid_out head (drop 24 bytes))) r e in
     let b = guard_ok (not (has_right_crc bytes)) Crc (laid_out head (drop 24 bytes)) r a.1 in
     record {
-      long_enough = eq-from (length bytes) head.total (not-false (length bytes == head.total) a.0);
-      crc = eq-from (number_at 4 bytes 20) (crc32c_of (drop 24 bytes ++ take 20 bytes)) (not-false (has_right_crc bytes) b.0);
+      long_enough = eqb-true (length bytes) head.total (not-false (length bytes == head.total) a.0);
+      crc = eqb-true (number_at 4 bytes 20) (crc32c_of (drop 24 bytes ++ take 20 bytes)) (not-false (has_right_crc bytes) b.0);
       laid = b.1;
     }
 

@@ -4,7 +4,7 @@ use Rattle.wal_record.specs.declared.parts.Part.{Part}
 use Rattle.wal_record.specs.declared.parts.HeadersRead.{HeadersRead}
 use Rattle.wal_record.specs.Parts.{◌>>=◌, part_at, parts_from, after, seen_after}
 use Rattle.wal_record.specs.Decoded.{walked_from}
-use Rattle.wal_record.proofs.Comparisons.{le-true, le-false, or-true}
+use Rattle.std.proofs.lemmas.Bool.{le-leb, lt-leb, or_right}
 
 -- no more parts are read: main data's header was there, or nothing but payloads is left
 abbrev pub is_done : HeadersRead → List ℕ → Bool
@@ -14,10 +14,10 @@ pub done-closed : (seen : HeadersRead) (text : List ℕ) → seen.closed ≡ tru
 done-closed seen text h = rw h refl
 
 pub done-full : (seen : HeadersRead) (text : List ℕ) → length text ≤ seen.blocks → is_done seen text ≡ true
-done-full seen text h = or-true seen.closed (nat_le (length text) seen.blocks) (le-true (length text) seen.blocks h)
+done-full seen text h = or_right seen.closed (nat_le (length text) seen.blocks) (le-leb (length text) seen.blocks h)
 
 pub done-false : (seen : HeadersRead) (text : List ℕ) → seen.closed ≡ false → seen.blocks < length text → is_done seen text ≡ false
-done-false seen text h lt = rw (h, le-false (length text) seen.blocks lt) refl
+done-false seen text h lt = rw (h, lt-leb (length text) seen.blocks lt) refl
 
 -- where no more parts are read, the walk ends
 pub walked_from-done : (n : ℕ) (seen : HeadersRead) (text : List ℕ) → is_done seen text ≡ true → walked_from n seen text ≡ Some (seen, text)

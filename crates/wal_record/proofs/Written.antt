@@ -9,7 +9,7 @@ use Rattle.wal_record.specs.declared.new.NewBlock.{NewBlock}
 use Rattle.wal_record.specs.declared.new.NewImage.{NewImage}
 use Rattle.wal_record.specs.declared.parts.Part.{Part}
 use Rattle.wal_record.specs.declared.parts.Part.TheVariants as part
-use Rattle.wal_record.specs.Spelling.{byte, short, long, image_text, locator_text, relation_text, part_text, total_of}
+use Rattle.wal_record.specs.Spelling.{one_byte, two_bytes, four_bytes, image_text, locator_text, relation_text, part_text, total_of}
 use Rattle.wal_record.specs.New.{flag, image_header_of, is_same_relation, flags_of, header_of, block_parts, main_parts, payload_of, spelling_of, header_size, blocks_size, new_size, IsNewBlock, AreNewBlocks}
 use Rattle.wal_record.proofs.Flags.{flags-are}
 
@@ -20,22 +20,22 @@ headers_text before blocks = flat_map part_text (block_parts before blocks)
 -- the pieces of a block's header are its text
 pub header-pieces : (before : Option Locator) (block : NewBlock) (same : Bool) (flags size : ℕ) (o o1 o2 o3 o4 o5 o6 : List ℕ) → block.fork < 16
     → same ≡ is_same_relation before block.locator → flags ≡ flags_of same block → size ≡ length block.payload
-    → o1 ≡ o ++ byte block.id → o2 ≡ o1 ++ byte flags → o3 ≡ o2 ++ short size → o4 ≡ o3 ++ image_text (option_map image_header_of block.image)
-    → o5 ≡ o4 ++ (if same then [] else locator_text block.locator) → o6 ≡ o5 ++ long block.block
+    → o1 ≡ o ++ one_byte block.id → o2 ≡ o1 ++ one_byte flags → o3 ≡ o2 ++ two_bytes size → o4 ≡ o3 ++ image_text (option_map image_header_of block.image)
+    → o5 ≡ o4 ++ (if same then [] else locator_text block.locator) → o6 ≡ o5 ++ four_bytes block.block
     → o6 ≡ o ++ part_text (part.Block (header_of before block))
 unfolding part_text
 header-pieces before block same flags size o o1 o2 o3 o4 o5 o6 fork s f n e1 e2 e3 e4 e5 e6 =
     let image = image_text (option_map image_header_of block.image) in
     let relation : Bool → List ℕ = λ b. if b then [] else locator_text block.locator in
     let are = flags-are block.fork (is_some block.image) (nat_lt 0 (length block.payload)) block.will_init (is_same_relation before block.locator) fork in
-    let pieces : o6 ≡ o ++ (byte block.id ++ (byte flags ++ (short size ++ (image ++ (relation same ++ long block.block))))) =
+    let pieces : o6 ≡ o ++ (one_byte block.id ++ (one_byte flags ++ (two_bytes size ++ (image ++ (relation same ++ four_bytes block.block))))) =
     rw (e6, e5, e4, e3, e2, e1) (simp append_assoc) in
     let flags_is : flags ≡ flags_of (is_same_relation before block.locator) block = f ∙ ap (λ (b : Bool). flags_of b block) s in
     let relation_is : relation same ≡ relation_text (header_of before block) = ap relation (s ∙ sym are.same_is) in
     pieces
-    ∙ ap (λ (k : ℕ). o ++ (byte block.id ++ (byte k ++ (short size ++ (image ++ (relation same ++ long block.block)))))) flags_is
-    ∙ ap (λ (k : ℕ). o ++ (byte block.id ++ (byte (flags_of (is_same_relation before block.locator) block) ++ (short k ++ (image ++ (relation same ++ long block.block)))))) n
-    ∙ ap (λ (w : List ℕ). o ++ (byte block.id ++ (byte (flags_of (is_same_relation before block.locator) block) ++ (short (length block.payload) ++ (image ++ (w ++ long block.block)))))) relation_is
+    ∙ ap (λ (k : ℕ). o ++ (one_byte block.id ++ (one_byte k ++ (two_bytes size ++ (image ++ (relation same ++ four_bytes block.block)))))) flags_is
+    ∙ ap (λ (k : ℕ). o ++ (one_byte block.id ++ (one_byte (flags_of (is_same_relation before block.locator) block) ++ (two_bytes k ++ (image ++ (relation same ++ four_bytes block.block)))))) n
+    ∙ ap (λ (w : List ℕ). o ++ (one_byte block.id ++ (one_byte (flags_of (is_same_relation before block.locator) block) ++ (two_bytes (length block.payload) ++ (image ++ (w ++ four_bytes block.block)))))) relation_is
 
 -- blocks in their order are blocks
 pub each-new : (least : ℕ) (blocks : List NewBlock) → AreNewBlocks least blocks → All IsNewBlock blocks
@@ -59,7 +59,7 @@ header-long before block fork =
     let are = flags-are block.fork (is_some block.image) (nat_lt 0 (length block.payload)) block.will_init (is_same_relation before block.locator) fork in
     let relation : length (relation_text header) ≡ (if is_same_relation before block.locator then 0 else 12) =
     ap (λ (b : Bool). length (if b then [] else locator_text block.locator)) are.same_is ∙ relation-long (is_same_relation before block.locator) block.locator in
-    omega (arith, relation, image-long block.image, length-append (image_text header.image) (relation_text header ++ long header.block), length-append (relation_text header) (long header.block))
+    omega (arith, relation, image-long block.image, length-append (image_text header.image) (relation_text header ++ four_bytes header.block), length-append (relation_text header) (four_bytes header.block))
 
 headers-long : (before : Option Locator) (least : ℕ) (blocks : List NewBlock) (parts : List Part) → AreNewBlocks least blocks
     → length (flat_map part_text (block_parts before blocks ++ parts)) + length (flat_map payload_of blocks) ≡ blocks_size before blocks + length (flat_map part_text parts)

@@ -12,7 +12,9 @@ use Rattle.wal_record.specs.declared.parts.BlockHeader.{BlockHeader}
 use Rattle.wal_record.specs.declared.parts.ImageHeader.{ImageHeader}
 use Rattle.wal_record.specs.Record.{Image, Block, Record}
 use Rattle.wal_record.specs.Decoded.{is_unknown_manager, may_link, decoded}
-use Rattle.wal_record.specs.Spelling.{AreBytes, IsLocator, Spelling, spelled}
+use Rattle.pg_types.specs.Bytes.{AreBytes}
+use Rattle.wal_record.specs.Spelling.{IsLocator, Spelling, spelled}
+use Rattle.pg_types.specs.Locators.{same_locator}
 
 -- one number for a flag that is set, and none for another
 abbrev pub flag : Bool → ℕ → ℕ
@@ -25,9 +27,6 @@ image_header_of image = record {
   hole_at = image.hole_at;
   info = flag (nat_lt (length image.bytes) 8192) 1 + flag image.apply 2;
 }
-
-abbrev pub same_locator : Locator → Locator → Bool
-same_locator a b = (a.space == b.space) && ((a.db == b.db) && (a.rel == b.rel))
 
 -- the relation is that of the block before
 abbrev pub is_same_relation : Option Locator → Locator → Bool

@@ -4,7 +4,7 @@ use Rattle.std.specs.Prelude.{◌≡◌, ℕ, ◌<◌, ◌^◌, List, All, Ok, I
 use Rattle.wal_record.specs.declared.types.PrevRule.{PrevRule}
 use Rattle.wal_record.specs.Record.{Block, Record}
 use Rattle.wal_record.specs.Decoded.{decoded}
-use Rattle.wal_record.specs.Spelling.{AreBytes}
+use Rattle.pg_types.specs.Bytes.{AreBytes}
 
 -- a block number of four bytes, and an image and data that are bytes
 pub record IsBlockOfBytes (block : Block) : Type 0 where

@@ -1,5 +1,5 @@
 -- The spelling of a record as a function of its parts (xlogrecord.h), apart from how it is read.
-use Rattle.std.specs.Prelude.{◌≡◌, ℕ, ◌+◌, ◌<◌, ◌≤◌, ◌^◌, true, false, List, [], ◌∷◌, ◌++◌, length, drop, All, Option, Some, None, Ok, MatchBool, if◌then◌else◌}
+use Rattle.std.specs.Prelude.{◌≡◌, ℕ, ◌+◌, ◌<◌, ◌≤◌, ◌^◌, true, false, List, [], ◌∷◌, ◌++◌, length, drop, Option, Some, None, Ok, MatchBool, if◌then◌else◌}
 use Rattle.std.specs.List.{flat_map}
 use Rattle.byteorder.specs.Endian.{little_bytes}
 use Rattle.pg_crc32c.specs.Crc32c.{crc32c_of}
@@ -11,28 +11,29 @@ use Rattle.wal_record.specs.declared.parts.BlockHeader.{BlockHeader}
 use Rattle.wal_record.specs.declared.parts.ImageHeader.{ImageHeader}
 use Rattle.wal_record.specs.declared.parts.HeadersRead.{HeadersRead}
 use Rattle.wal_record.specs.Record.{Record}
+use Rattle.pg_types.specs.Bytes.{AreBytes}
 use Rattle.pg_types.specs.Numbers.{has_bits}
 use Rattle.wal_record.specs.Parts.{is_compressed, fits_page, data_agrees, after, start, seen_after}
 use Rattle.wal_record.specs.Decoded.{is_unknown_manager, may_link, blocks_of, decoded}
 
 -- a number in one, two and four bytes, the lowest first
-abbrev pub byte : ℕ → List ℕ
-byte x = little_bytes 1 x
+abbrev pub one_byte : ℕ → List ℕ
+one_byte x = little_bytes 1 x
 
-abbrev pub short : ℕ → List ℕ
-short x = little_bytes 2 x
+abbrev pub two_bytes : ℕ → List ℕ
+two_bytes x = little_bytes 2 x
 
-abbrev pub long : ℕ → List ℕ
-long x = little_bytes 4 x
+abbrev pub four_bytes : ℕ → List ℕ
+four_bytes x = little_bytes 4 x
 
 -- the header of an image that is not compressed (XLogRecordBlockImageHeader)
 abbrev pub image_text : Option ImageHeader → List ℕ
 image_text None = []
-image_text (Some image) = short image.length ++ (short image.hole_at ++ byte image.info)
+image_text (Some image) = two_bytes image.length ++ (two_bytes image.hole_at ++ one_byte image.info)
 
 -- tablespace, database and file (RelFileLocator), unless it is that of the block before
 abbrev pub locator_text : Locator → List ℕ
-locator_text locator = long locator.space ++ (long locator.db ++ long locator.rel)
+locator_text locator = four_bytes locator.space ++ (four_bytes locator.db ++ four_bytes locator.rel)
 
 abbrev pub relation_text : BlockHeader → List ℕ
 relation_text block = if has_bits block.flags 128 then [] else locator_text block.locator
@@ -40,15 +41,15 @@ relation_text block = if has_bits block.flags 128 then [] else locator_text bloc
 -- the header of a block behind its id (XLogRecordBlockHeader)
 abbrev pub block_text : BlockHeader → List ℕ
 block_text block =
-    byte block.flags ++ (short block.data_length ++ (image_text block.image ++ (relation_text block ++ long block.block)))
+    one_byte block.flags ++ (two_bytes block.data_length ++ (image_text block.image ++ (relation_text block ++ four_bytes block.block)))
 
 -- the header of a part, which begins with its id
 unfoldable pub part_text : Part → List ℕ
-part_text (part.Block block) = byte block.id ++ block_text block
-part_text (part.Origin origin) = byte 253 ++ short origin
-part_text (part.TopXid xid) = byte 252 ++ long xid
-part_text (part.ShortMain size) = byte 255 ++ byte size
-part_text (part.LongMain size) = byte 254 ++ long size
+part_text (part.Block block) = one_byte block.id ++ block_text block
+part_text (part.Origin origin) = one_byte 253 ++ two_bytes origin
+part_text (part.TopXid xid) = one_byte 252 ++ four_bytes xid
+part_text (part.ShortMain size) = one_byte 255 ++ one_byte size
+part_text (part.LongMain size) = one_byte 254 ++ four_bytes size
 
 -- an image's header has numbers of its size, and a whole page or a hole within it
 pub record IsImage (image : ImageHeader) : Type 0 where
@@ -117,17 +118,14 @@ total_of s = 24 + length (behind_header s)
 -- the header before its CRC, by its fields (XLogRecord)
 abbrev pub front_of : ℕ → ℕ → ℕ → ℕ → ℕ → ℕ → List ℕ
 front_of total xid prev info manager padding =
-    long total ++ (long xid ++ (little_bytes 8 prev ++ (byte info ++ (byte manager ++ short padding))))
+    four_bytes total ++ (four_bytes xid ++ (little_bytes 8 prev ++ (one_byte info ++ (one_byte manager ++ two_bytes padding))))
 
 abbrev pub before_crc : Spelling → List ℕ
 before_crc s = front_of (total_of s) s.xid s.prev s.info s.manager s.padding
 
 -- the record's bytes
 unfoldable pub spelled : Spelling → List ℕ
-spelled s = before_crc s ++ (long (crc32c_of (behind_header s ++ before_crc s)) ++ behind_header s)
-
-abbrev pub AreBytes : List ℕ → Type 0
-AreBytes bytes = All (λ b. b < 256) bytes
+spelled s = before_crc s ++ (four_bytes (crc32c_of (behind_header s ++ before_crc s)) ++ behind_header s)
 
 -- the numbers have their sizes, the parts may stand so, and the payloads are as long as they say
 pub record IsSpelling (s : Spelling) : Type 0 where

@@ -2,7 +2,7 @@ ghost use Rattle.std.specs.Prelude.{◌≡◌, ◌+◌, ◌<◌, ◌≤◌, ◌^
 ghost use Rattle.std.specs.List.{flat_map};
 ghost use Rattle.pg_crc32c.specs.Crc32c.{crc32c_of};
 ghost use Rattle.wal_record.specs.declared.parts.Part.TheVariants as part;
-ghost use Rattle.wal_record.specs.Spelling.{byte, short, long, part_text, image_text, locator_text, front_of, before_crc, behind_header};
+ghost use Rattle.wal_record.specs.Spelling.{one_byte, two_bytes, four_bytes, part_text, image_text, locator_text, front_of, before_crc, behind_header};
 ghost use Rattle.wal_record.specs.New.{IsNewBlock, IsNew, flag, image_header_of, is_same_relation, flags_of, header_of, block_parts, main_parts, payload_of, spelling_of, encoded, is_page_image};
 
 use crate::new::{NewBlock, NewImage, NewRecord};
@@ -37,7 +37,7 @@ pub fn encode(alloc: Global, rec: &NewRecord, out: &mut Vec<u8>) -> Result<(), N
 fn front(alloc: Global, rec: &NewRecord, behind: &[u8]) -> Result<Vec<u8>, AllocError>
     requires new { IsNew rec.now }
     requires behind { behind.now ≡ behind_header (spelling_of rec.now) }
-    ensures { IfOk result (λ front. front.items ≡ before_crc (spelling_of rec.now) ++ long (crc32c_of (behind.now ++ before_crc (spelling_of rec.now)))) }
+    ensures { IfOk result (λ front. front.items ≡ before_crc (spelling_of rec.now) ++ four_bytes (crc32c_of (behind.now ++ before_crc (spelling_of rec.now)))) }
 {
     let mut front = fields(alloc, rec, 24 + behind.len() as u32)?;
     let crc = crc32c(behind, &front);
@@ -111,9 +111,7 @@ fn is_same_relation(before: Option<Locator>, locator: Locator) -> bool
 {
     match before {
         None => false,
-        Some(before) => {
-            before.space == locator.space && before.db == locator.db && before.rel == locator.rel
-        }
+        Some(before) => before == locator,
     }
 }
 
@@ -201,21 +199,21 @@ fn put_payload(block: &NewBlock, out: &mut Vec<u8>) -> Result<(), AllocError>
 }
 
 fn put_byte(out: &mut Vec<u8>, number: u8) -> Result<(), AllocError>
-    ensures { OnOk result (out.new.items ≡ out.old.items ++ byte number) }
+    ensures { OnOk result (out.new.items ≡ out.old.items ++ one_byte number) }
 {
     out.push(number)?;
     Ok(())
 }
 
 fn put_short(out: &mut Vec<u8>, number: u16) -> Result<(), AllocError>
-    ensures { OnOk result (out.new.items ≡ out.old.items ++ short number) }
+    ensures { OnOk result (out.new.items ≡ out.old.items ++ two_bytes number) }
 {
     out.extend_from_slice(&number.to_le_bytes())?;
     Ok(())
 }
 
 fn put_long(out: &mut Vec<u8>, number: u32) -> Result<(), AllocError>
-    ensures { OnOk result (out.new.items ≡ out.old.items ++ long number) }
+    ensures { OnOk result (out.new.items ≡ out.old.items ++ four_bytes number) }
 {
     out.extend_from_slice(&number.to_le_bytes())?;
     Ok(())

@@ -33,7 +33,7 @@ pub fn decode_head(bytes: &[u8], at: Lsn, prev: PrevRule) -> Result<RecordHead, 
 #[tactic(auto, unfolding(crate::specs::Decoded::total_at))]
 fn total(bytes: &[u8]) -> Result<u32, RecordFault>
     ensures exact { result ≡ total_at bytes.now }
-    ensures long { IfOk result (λ total. (24 ≤ total) × (total ≡ number_at 4 bytes.now 0)) }
+    ensures header_fits { IfOk result (λ total. (24 ≤ total) × (total ≡ number_at 4 bytes.now 0)) }
 {
     if bytes.len() < 4 {
         return Err(RecordFault::Layout);

@@ -110,7 +110,7 @@ pub fn lend<'a>(bytes: &'a [u8], shape: RecordShape) -> RecordView<'a>
 fn whole(total: u32, bytes: &[u8]) -> Result<RecordShape, RecordFault>
     requires { 24 ≤ total }
     ensures says { (head : RecordHead) → head.total ≡ total → SaysLaid result head (drop 24 bytes.now) (whole head bytes.now) }
-    ensures long { IfOk result (λ _. 24 ≤ length bytes.now) }
+    ensures header_fits { IfOk result (λ _. 24 ≤ length bytes.now) }
 {
     if bytes.len() != total as usize {
         return Err(RecordFault::Layout);

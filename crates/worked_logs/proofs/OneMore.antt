@@ -9,7 +9,6 @@ use Rattle.wal_bodies.specs.declared.types.Rec.{Rec}
 use Rattle.heap_redo.specs.declared.fault.RedoFault.{RedoFault}
 use Rattle.page_store.specs.Seen.{View}
 use Rattle.heap_redo.specs.After.{applied, after}
-use Rattle.wal_bodies.specs.HeapKinds.{same_locator}
 use Rattle.transaction_model.specs.LegalTransactions.{Legal, before}
 use Rattle.xact_redo.specs.TransactionsOf.{kind_of, transactions_of}
 use Rattle.row_model.specs.Versions.{Version}
@@ -21,6 +20,7 @@ use Rattle.row_model.specs.WorkedRows.{first_tuple, worked_block, worked_ids, wo
 use Rattle.row_model.proofs.WorkedLog.{answered_view, no_locks}
 use Rattle.worked_logs.specs.Clauses.{Clause, Births, Deleters, Removals, Cut, Blocks, Locks, CheckpointLocks, Multixacts, Renews, Apart, Shutdowns, Transactions, NewMultixacts, Redone, Keeps}
 use Rattle.worked_logs.specs.BrokenLogs.{BreaksOnly, bare_block}
+use Rattle.pg_types.specs.Locators.{same_locator}
 
 -- what a record adds to a log that keeps a clause
 abbrev pub Adds : Clause → List Rec → Rec → Type 0

@@ -12,7 +12,6 @@ use Rattle.heap_page.specs.Put.{put_answer, set_head_answer}
 use Rattle.heap_redo.specs.Redone.{grown, redone, redone_at, redone_block, view_with, with_seen}
 use Rattle.heap_redo.specs.After.{after, after_change, change_head, changed, changed_page, joined, put, put_listed, put_version, tuple_of, update, update_old, update_within}
 use Rattle.heap_redo.specs.TupleHeads.{deleted, head_bytes, head_of, locked, marked_mask, marked_mask2, replaced}
-use Rattle.wal_bodies.specs.HeapKinds.{same_locator}
 use Rattle.transaction_model.specs.Transactions.{committed, ended}
 use Rattle.transaction_model.specs.LegalTransactions.{Legal}
 use Rattle.xact_redo.specs.TransactionsOf.{kind_of, transaction_of, transactions_of}
@@ -45,6 +44,7 @@ use Rattle.row_model.specs.Rows.{IsInPlaceOrder, IsRows}
 use Rattle.row_model.specs.Locks.{is_gone}
 use Rattle.worked_logs.proofs.SecondIds.{live_701, live_702, live_703, second_legal}
 use Rattle.row_model.proofs.WorkedLog.{all_true, answered_view, no_locks}
+use Rattle.pg_types.specs.Locators.{same_locator}
 
 abbrev before_it : List Rec → List Version
 before_it older = versions second_origin worked_table older

@@ -5,7 +5,8 @@ use Rattle.std.specs.Cmp.Lexicographic.{pointwise}
 use Rattle.std.specs.List.{list_all}
 use Rattle.std.proofs.lemmas.Bool.{and_parts, ltb-true}
 use Rattle.std.proofs.lemmas.List.Elements.{All-cons, All-nil}
-use Rattle.outside.specs.Archive.{AreBytes, HaveBytes}
+use Rattle.pg_types.specs.Bytes.{AreBytes}
+use Rattle.outside.specs.Archive.{HaveBytes}
 use Rattle.worked_archive.specs.WorkedArchive.{contents, files}
 
 are_bytes : (xs : List ℕ) → list_all (λ (byte : ℕ). nat_lt byte 256) xs ≡ true → AreBytes xs

@@ -1,5 +1,5 @@
 -- A log that stands over the files is a front of the whole one, and each of these is legal.
-use Rattle.std.proofs.Common.{◌≡◌, ℕ, ◌⊎◌, inl, inr, List, [], ◌∷◌, Result, Ok, Err, refl, sym, subst}
+use Rattle.std.proofs.Common.{◌≡◌, ℕ, ◌⊎◌, inl, inr, List, [], ◌∷◌, Result, Ok, refl, sym, subst}
 use Rattle.wal_reader.specs.Told.{Told}
 use Rattle.wal_bodies.specs.declared.types.Rec.{Rec}
 use Rattle.standby_core.specs.Standby.{described_in}
@@ -14,17 +14,12 @@ use Rattle.row_model.specs.Prefixes.{PrefixIsLegal}
 use Rattle.worked_premise.specs.WorkedSchema.{tables}
 use Rattle.worked_premise.specs.Premise.{FilesAreLegal}
 use Rattle.worked_premise.proofs.Told.{is_log}
+use Rattle.wal_reader.proofs.OneResult.{not_both, one_ok}
 
 -- the log, or it without its newest records
 abbrev IsFront : List Rec → List Rec → Type 0
 IsFront other [] = other ≡ []
 IsFront other (rec ∷ older) = (other ≡ rec ∷ older) ⊎ IsFront other older
-
-one_ok : {A E : Type 0} (r : Result A E) (a b : A) → r ≡ Ok a → r ≡ Ok b → a ≡ b
-one_ok r a b e f = cc
-
-not_both : {A E : Type 0} (r : Result A E) (a : A) (e : E) → r ≡ Ok a → r ≡ Err e → ⊥
-not_both r a e p q = cc
 
 module _ (told : Told) (from : ℕ) where
   moved :

@@ -6,7 +6,7 @@ use Rattle.heap_redo.proofs.Lines.{change_head-refused, not-normal}
 use Rattle.heap_redo.proofs.line.header_at.Goals as goal
 
 pub read-requires : goal.read-requires
-read-requires c = let facts = tuple_facts c.in-Normal.bytes.now c.in-Normal.ensures.rule in omega (arith, facts.long)
+read-requires c = let facts = tuple_facts c.in-Normal.bytes.now c.in-Normal.ensures.rule in omega (arith, facts.header_fits)
 
 pub returns-in_default : goal.returns-in_default
 returns-in_default c = record {

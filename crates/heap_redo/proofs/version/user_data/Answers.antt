@@ -3,7 +3,7 @@ use Rattle.heap_tuple.proofs.TupleFacts.{tuple_facts}
 use Rattle.heap_redo.proofs.version.user_data.Goals as goal
 
 pub bounds-bytes-22 : goal.bounds-bytes-22
-bounds-bytes-22 c = let facts = tuple_facts c.in-Normal.bytes.now c.in-Normal.ensures.rule in omega (arith, facts.long)
+bounds-bytes-22 c = let facts = tuple_facts c.in-Normal.bytes.now c.in-Normal.ensures.rule in omega (arith, facts.header_fits)
 
 pub slice_bounds-result-count : goal.slice_bounds-result-count
 slice_bounds-result-count c = let facts = tuple_facts c.in-Normal.bytes.now c.in-Normal.ensures.rule in omega (arith, facts.inside)

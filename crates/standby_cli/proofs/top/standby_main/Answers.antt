@@ -9,7 +9,8 @@ use Rattle.run_model.specs.Starts.{BadWords, Rejects, Scans, Holds, Starts, comm
 use Rattle.standby_cli.specs.declared.begin.Start.{Start as Begun}
 use Rattle.standby_cli.specs.Meaning.{rejection_meaning, start_meaning}
 use Rattle.standby_cli.specs.Watched.{watched}
-use Rattle.standby_cli.proofs.Program.{any_rejection, bad_words, bad_words_end, early_end, early_leaves, held_as, legal_clause, not_answered, not_rejected, not_rejecting, rejected_leaves, rejected_so, rejecting, run_begun, run_early, same_rejection, scan_all, scans_no_rejection, holds_no_rejection}
+use Rattle.standby_cli.proofs.Program.{any_rejection, bad_words, bad_words_end, early_end, early_leaves, held_as, legal_clause, not_answered, not_rejected, not_rejecting, rejected_leaves, rejected_so, rejecting, run_begun, run_early, same_rejection, scan_all}
+use Rattle.standby_cli.proofs.Legal.{holds_no_rejection, scans_no_rejection}
 use Rattle.standby_cli.proofs.top.standby_main.Goals as goal
 
 pub returns-in-Err-Failed-clause-run : goal.returns-in-Err-Failed-clause-run
@@ -53,9 +54,6 @@ pub returns-in-Err-Failed-clause-rejects : goal.returns-in-Err-Failed-clause-rej
 returns-in-Err-Failed-clause-rejects g c =
     let words = map string_bytes c.args.words.now in
     let base = g.B.BaseDir.files c.args.base.now in
-    let files = g.A.Archive.files c.args.archive.now in
-    let bytes = archived_bytes files segment_size in
-    let source = g.S.Source.rest c.args.source.now in
     let status = c.write_fault.result in
     let before = g.O.Sink.written c.args.out.now in
     let now = g.O.Sink.written c.write_fault.new.out in
@@ -63,80 +61,26 @@ returns-in-Err-Failed-clause-rejects g c =
     let h = g.O.Sink.fault_count c.write_fault.new.out in
     let s = g.O.Sink.short_count c.args.out.now in
     let u = g.O.Sink.short_count c.write_fault.new.out in
-    let rose = Rose (g.S.Source.fault_count c.args.source.now) (g.S.Source.fault_count c.args.source.now) in
-    let o = watched f h s u rose before now in
     any_rejection words base (λ r. RejectionLeaves r status (watched f h s u ⊥ before now)) (early_leaves status (watched f h s u ⊥ before now) fault.Archive tt c.write_fault.ensures.status c.write_fault.ensures.written)
 
 pub returns-in-Err-Failed-clause-unasked : goal.returns-in-Err-Failed-clause-unasked
 returns-in-Err-Failed-clause-unasked g c =
     let words = map string_bytes c.args.words.now in
     let base = g.B.BaseDir.files c.args.base.now in
-    let files = g.A.Archive.files c.args.archive.now in
-    let bytes = archived_bytes files segment_size in
-    let source = g.S.Source.rest c.args.source.now in
-    let status = c.write_fault.result in
-    let before = g.O.Sink.written c.args.out.now in
-    let now = g.O.Sink.written c.write_fault.new.out in
-    let f = g.O.Sink.fault_count c.args.out.now in
-    let h = g.O.Sink.fault_count c.write_fault.new.out in
-    let s = g.O.Sink.short_count c.args.out.now in
-    let u = g.O.Sink.short_count c.write_fault.new.out in
-    let rose = Rose (g.S.Source.fault_count c.args.source.now) (g.S.Source.fault_count c.args.source.now) in
-    let o = watched f h s u rose before now in
     any_rejection words base (λ r. (g.A.Archive.fault_count c.args.archive.now ≡ g.A.Archive.fault_count c.args.archive.now) × (g.S.Source.fault_count c.args.source.now ≡ g.S.Source.fault_count c.args.source.now)) (λ r. (refl, refl))
 
 pub returns-in-Err-Failed-clause-rejected : goal.returns-in-Err-Failed-clause-rejected
 returns-in-Err-Failed-clause-rejected g c =
-    let words = map string_bytes c.args.words.now in
-    let base = g.B.BaseDir.files c.args.base.now in
-    let files = g.A.Archive.files c.args.archive.now in
-    let bytes = archived_bytes files segment_size in
-    let source = g.S.Source.rest c.args.source.now in
     let status = c.write_fault.result in
-    let before = g.O.Sink.written c.args.out.now in
-    let now = g.O.Sink.written c.write_fault.new.out in
-    let f = g.O.Sink.fault_count c.args.out.now in
-    let h = g.O.Sink.fault_count c.write_fault.new.out in
-    let s = g.O.Sink.short_count c.args.out.now in
-    let u = g.O.Sink.short_count c.write_fault.new.out in
-    let rose = Rose (g.S.Source.fault_count c.args.source.now) (g.S.Source.fault_count c.args.source.now) in
-    let o = watched f h s u rose before now in
     λ is. absurd (not_rejected status (early_end fault.Archive tt status c.write_fault.ensures.status) is)
 
 pub returns-in-Err-Failed-clause-words : goal.returns-in-Err-Failed-clause-words
 returns-in-Err-Failed-clause-words g c =
-    let words = map string_bytes c.args.words.now in
-    let base = g.B.BaseDir.files c.args.base.now in
-    let files = g.A.Archive.files c.args.archive.now in
-    let bytes = archived_bytes files segment_size in
-    let source = g.S.Source.rest c.args.source.now in
     let status = c.write_fault.result in
-    let before = g.O.Sink.written c.args.out.now in
-    let now = g.O.Sink.written c.write_fault.new.out in
-    let f = g.O.Sink.fault_count c.args.out.now in
-    let h = g.O.Sink.fault_count c.write_fault.new.out in
-    let s = g.O.Sink.short_count c.args.out.now in
-    let u = g.O.Sink.short_count c.write_fault.new.out in
-    let rose = Rose (g.S.Source.fault_count c.args.source.now) (g.S.Source.fault_count c.args.source.now) in
-    let o = watched f h s u rose before now in
     λ two. absurd (not_rejected status (early_end fault.Archive tt status c.write_fault.ensures.status) (inl two))
 
 pub returns-in-Err-Failed-clause-other_words : goal.returns-in-Err-Failed-clause-other_words
 returns-in-Err-Failed-clause-other_words g c =
-    let words = map string_bytes c.args.words.now in
-    let base = g.B.BaseDir.files c.args.base.now in
-    let files = g.A.Archive.files c.args.archive.now in
-    let bytes = archived_bytes files segment_size in
-    let source = g.S.Source.rest c.args.source.now in
-    let status = c.write_fault.result in
-    let before = g.O.Sink.written c.args.out.now in
-    let now = g.O.Sink.written c.write_fault.new.out in
-    let f = g.O.Sink.fault_count c.args.out.now in
-    let h = g.O.Sink.fault_count c.write_fault.new.out in
-    let s = g.O.Sink.short_count c.args.out.now in
-    let u = g.O.Sink.short_count c.write_fault.new.out in
-    let rose = Rose (g.S.Source.fault_count c.args.source.now) (g.S.Source.fault_count c.args.source.now) in
-    let o = watched f h s u rose before now in
     λ none. absurd (c.in-Err-Failed.ensures.at_once none)
 
 pub returns-in-Err-Memory-clause-run : goal.returns-in-Err-Memory-clause-run
@@ -180,9 +124,6 @@ pub returns-in-Err-Memory-clause-rejects : goal.returns-in-Err-Memory-clause-rej
 returns-in-Err-Memory-clause-rejects g c =
     let words = map string_bytes c.args.words.now in
     let base = g.B.BaseDir.files c.args.base.now in
-    let files = g.A.Archive.files c.args.archive.now in
-    let bytes = archived_bytes files segment_size in
-    let source = g.S.Source.rest c.args.source.now in
     let status = c.write_fault-in-Err-Memory.result in
     let before = g.O.Sink.written c.args.out.now in
     let now = g.O.Sink.written c.write_fault-in-Err-Memory.new.out in
@@ -190,80 +131,26 @@ returns-in-Err-Memory-clause-rejects g c =
     let h = g.O.Sink.fault_count c.write_fault-in-Err-Memory.new.out in
     let s = g.O.Sink.short_count c.args.out.now in
     let u = g.O.Sink.short_count c.write_fault-in-Err-Memory.new.out in
-    let rose = Rose (g.S.Source.fault_count c.args.source.now) (g.S.Source.fault_count c.args.source.now) in
-    let o = watched f h s u rose before now in
     any_rejection words base (λ r. RejectionLeaves r status (watched f h s u ⊥ before now)) (early_leaves status (watched f h s u ⊥ before now) fault.Memory tt c.write_fault-in-Err-Memory.ensures.status c.write_fault-in-Err-Memory.ensures.written)
 
 pub returns-in-Err-Memory-clause-unasked : goal.returns-in-Err-Memory-clause-unasked
 returns-in-Err-Memory-clause-unasked g c =
     let words = map string_bytes c.args.words.now in
     let base = g.B.BaseDir.files c.args.base.now in
-    let files = g.A.Archive.files c.args.archive.now in
-    let bytes = archived_bytes files segment_size in
-    let source = g.S.Source.rest c.args.source.now in
-    let status = c.write_fault-in-Err-Memory.result in
-    let before = g.O.Sink.written c.args.out.now in
-    let now = g.O.Sink.written c.write_fault-in-Err-Memory.new.out in
-    let f = g.O.Sink.fault_count c.args.out.now in
-    let h = g.O.Sink.fault_count c.write_fault-in-Err-Memory.new.out in
-    let s = g.O.Sink.short_count c.args.out.now in
-    let u = g.O.Sink.short_count c.write_fault-in-Err-Memory.new.out in
-    let rose = Rose (g.S.Source.fault_count c.args.source.now) (g.S.Source.fault_count c.args.source.now) in
-    let o = watched f h s u rose before now in
     any_rejection words base (λ r. (g.A.Archive.fault_count c.args.archive.now ≡ g.A.Archive.fault_count c.args.archive.now) × (g.S.Source.fault_count c.args.source.now ≡ g.S.Source.fault_count c.args.source.now)) (λ r. (refl, refl))
 
 pub returns-in-Err-Memory-clause-rejected : goal.returns-in-Err-Memory-clause-rejected
 returns-in-Err-Memory-clause-rejected g c =
-    let words = map string_bytes c.args.words.now in
-    let base = g.B.BaseDir.files c.args.base.now in
-    let files = g.A.Archive.files c.args.archive.now in
-    let bytes = archived_bytes files segment_size in
-    let source = g.S.Source.rest c.args.source.now in
     let status = c.write_fault-in-Err-Memory.result in
-    let before = g.O.Sink.written c.args.out.now in
-    let now = g.O.Sink.written c.write_fault-in-Err-Memory.new.out in
-    let f = g.O.Sink.fault_count c.args.out.now in
-    let h = g.O.Sink.fault_count c.write_fault-in-Err-Memory.new.out in
-    let s = g.O.Sink.short_count c.args.out.now in
-    let u = g.O.Sink.short_count c.write_fault-in-Err-Memory.new.out in
-    let rose = Rose (g.S.Source.fault_count c.args.source.now) (g.S.Source.fault_count c.args.source.now) in
-    let o = watched f h s u rose before now in
     λ is. absurd (not_rejected status (early_end fault.Memory tt status c.write_fault-in-Err-Memory.ensures.status) is)
 
 pub returns-in-Err-Memory-clause-words : goal.returns-in-Err-Memory-clause-words
 returns-in-Err-Memory-clause-words g c =
-    let words = map string_bytes c.args.words.now in
-    let base = g.B.BaseDir.files c.args.base.now in
-    let files = g.A.Archive.files c.args.archive.now in
-    let bytes = archived_bytes files segment_size in
-    let source = g.S.Source.rest c.args.source.now in
     let status = c.write_fault-in-Err-Memory.result in
-    let before = g.O.Sink.written c.args.out.now in
-    let now = g.O.Sink.written c.write_fault-in-Err-Memory.new.out in
-    let f = g.O.Sink.fault_count c.args.out.now in
-    let h = g.O.Sink.fault_count c.write_fault-in-Err-Memory.new.out in
-    let s = g.O.Sink.short_count c.args.out.now in
-    let u = g.O.Sink.short_count c.write_fault-in-Err-Memory.new.out in
-    let rose = Rose (g.S.Source.fault_count c.args.source.now) (g.S.Source.fault_count c.args.source.now) in
-    let o = watched f h s u rose before now in
     λ two. absurd (not_rejected status (early_end fault.Memory tt status c.write_fault-in-Err-Memory.ensures.status) (inl two))
 
 pub returns-in-Err-Memory-clause-other_words : goal.returns-in-Err-Memory-clause-other_words
 returns-in-Err-Memory-clause-other_words g c =
-    let words = map string_bytes c.args.words.now in
-    let base = g.B.BaseDir.files c.args.base.now in
-    let files = g.A.Archive.files c.args.archive.now in
-    let bytes = archived_bytes files segment_size in
-    let source = g.S.Source.rest c.args.source.now in
-    let status = c.write_fault-in-Err-Memory.result in
-    let before = g.O.Sink.written c.args.out.now in
-    let now = g.O.Sink.written c.write_fault-in-Err-Memory.new.out in
-    let f = g.O.Sink.fault_count c.args.out.now in
-    let h = g.O.Sink.fault_count c.write_fault-in-Err-Memory.new.out in
-    let s = g.O.Sink.short_count c.args.out.now in
-    let u = g.O.Sink.short_count c.write_fault-in-Err-Memory.new.out in
-    let rose = Rose (g.S.Source.fault_count c.args.source.now) (g.S.Source.fault_count c.args.source.now) in
-    let o = watched f h s u rose before now in
     λ none. absurd (c.in-Err-Memory.ensures.at_once none)
 
 pub returns-in-Ok-Rejected-clause-run : goal.returns-in-Ok-Rejected-clause-run
@@ -309,9 +196,6 @@ pub returns-in-Ok-Rejected-clause-rejects : goal.returns-in-Ok-Rejected-clause-r
 returns-in-Ok-Rejected-clause-rejects g c =
     let words = map string_bytes c.args.words.now in
     let base = g.B.BaseDir.files c.args.base.now in
-    let files = g.A.Archive.files c.args.archive.now in
-    let bytes = archived_bytes files segment_size in
-    let source = g.S.Source.rest c.args.source.now in
     let status = c.reject.result in
     let before = g.O.Sink.written c.args.out.now in
     let now = g.O.Sink.written c.reject.new.out in
@@ -319,8 +203,6 @@ returns-in-Ok-Rejected-clause-rejects g c =
     let h = g.O.Sink.fault_count c.reject.new.out in
     let s = g.O.Sink.short_count c.args.out.now in
     let u = g.O.Sink.short_count c.reject.new.out in
-    let rose = Rose (g.S.Source.fault_count c.args.source.now) (g.S.Source.fault_count c.args.source.now) in
-    let o = watched f h s u rose before now in
     let begins = subst (λ (b : Begun). IfSome base (λ described. Starts words described (start_meaning b))) c.in-Ok-Rejected.field-0-is c.in-Ok-Rejected.ensures.told in
     rejecting words base (λ r. RejectionLeaves r status (watched f h s u ⊥ before now)) (rejection_meaning c.in-Ok-Rejected.rejection) begins c.reject.ensures.leaves
 
@@ -328,28 +210,12 @@ pub returns-in-Ok-Rejected-clause-unasked : goal.returns-in-Ok-Rejected-clause-u
 returns-in-Ok-Rejected-clause-unasked g c =
     let words = map string_bytes c.args.words.now in
     let base = g.B.BaseDir.files c.args.base.now in
-    let files = g.A.Archive.files c.args.archive.now in
-    let bytes = archived_bytes files segment_size in
-    let source = g.S.Source.rest c.args.source.now in
-    let status = c.reject.result in
-    let before = g.O.Sink.written c.args.out.now in
-    let now = g.O.Sink.written c.reject.new.out in
-    let f = g.O.Sink.fault_count c.args.out.now in
-    let h = g.O.Sink.fault_count c.reject.new.out in
-    let s = g.O.Sink.short_count c.args.out.now in
-    let u = g.O.Sink.short_count c.reject.new.out in
-    let rose = Rose (g.S.Source.fault_count c.args.source.now) (g.S.Source.fault_count c.args.source.now) in
-    let o = watched f h s u rose before now in
-    let begins = subst (λ (b : Begun). IfSome base (λ described. Starts words described (start_meaning b))) c.in-Ok-Rejected.field-0-is c.in-Ok-Rejected.ensures.told in
     any_rejection words base (λ r. (g.A.Archive.fault_count c.args.archive.now ≡ g.A.Archive.fault_count c.args.archive.now) × (g.S.Source.fault_count c.args.source.now ≡ g.S.Source.fault_count c.args.source.now)) (λ r. (refl, refl))
 
 pub returns-in-Ok-Rejected-clause-rejected : goal.returns-in-Ok-Rejected-clause-rejected
 returns-in-Ok-Rejected-clause-rejected g c =
     let words = map string_bytes c.args.words.now in
     let base = g.B.BaseDir.files c.args.base.now in
-    let files = g.A.Archive.files c.args.archive.now in
-    let bytes = archived_bytes files segment_size in
-    let source = g.S.Source.rest c.args.source.now in
     let status = c.reject.result in
     let before = g.O.Sink.written c.args.out.now in
     let now = g.O.Sink.written c.reject.new.out in
@@ -357,18 +223,11 @@ returns-in-Ok-Rejected-clause-rejected g c =
     let h = g.O.Sink.fault_count c.reject.new.out in
     let s = g.O.Sink.short_count c.args.out.now in
     let u = g.O.Sink.short_count c.reject.new.out in
-    let rose = Rose (g.S.Source.fault_count c.args.source.now) (g.S.Source.fault_count c.args.source.now) in
-    let o = watched f h s u rose before now in
     let begins = subst (λ (b : Begun). IfSome base (λ described. Starts words described (start_meaning b))) c.in-Ok-Rejected.field-0-is c.in-Ok-Rejected.ensures.told in
     λ is. rejected_so words base (rejection_meaning c.in-Ok-Rejected.rejection) status (watched f h s u ⊥ before now) begins c.reject.ensures.leaves is
 
 pub returns-in-Ok-Rejected-clause-words : goal.returns-in-Ok-Rejected-clause-words
 returns-in-Ok-Rejected-clause-words g c =
-    let words = map string_bytes c.args.words.now in
-    let base = g.B.BaseDir.files c.args.base.now in
-    let files = g.A.Archive.files c.args.archive.now in
-    let bytes = archived_bytes files segment_size in
-    let source = g.S.Source.rest c.args.source.now in
     let status = c.reject.result in
     let before = g.O.Sink.written c.args.out.now in
     let now = g.O.Sink.written c.reject.new.out in
@@ -376,18 +235,10 @@ returns-in-Ok-Rejected-clause-words g c =
     let h = g.O.Sink.fault_count c.reject.new.out in
     let s = g.O.Sink.short_count c.args.out.now in
     let u = g.O.Sink.short_count c.reject.new.out in
-    let rose = Rose (g.S.Source.fault_count c.args.source.now) (g.S.Source.fault_count c.args.source.now) in
-    let o = watched f h s u rose before now in
-    let begins = subst (λ (b : Begun). IfSome base (λ described. Starts words described (start_meaning b))) c.in-Ok-Rejected.field-0-is c.in-Ok-Rejected.ensures.told in
     λ two. let (bad, wrote) = bad_words (rejection_meaning c.in-Ok-Rejected.rejection) status (watched f h s u ⊥ before now) c.reject.ensures.leaves two in (c.in-Ok-Rejected.ensures.bad_words (ap start_meaning c.in-Ok-Rejected.field-0-is ∙ ap Rejects bad), wrote)
 
 pub returns-in-Ok-Rejected-clause-other_words : goal.returns-in-Ok-Rejected-clause-other_words
 returns-in-Ok-Rejected-clause-other_words g c =
-    let words = map string_bytes c.args.words.now in
-    let base = g.B.BaseDir.files c.args.base.now in
-    let files = g.A.Archive.files c.args.archive.now in
-    let bytes = archived_bytes files segment_size in
-    let source = g.S.Source.rest c.args.source.now in
     let status = c.reject.result in
     let before = g.O.Sink.written c.args.out.now in
     let now = g.O.Sink.written c.reject.new.out in
@@ -395,9 +246,6 @@ returns-in-Ok-Rejected-clause-other_words g c =
     let h = g.O.Sink.fault_count c.reject.new.out in
     let s = g.O.Sink.short_count c.args.out.now in
     let u = g.O.Sink.short_count c.reject.new.out in
-    let rose = Rose (g.S.Source.fault_count c.args.source.now) (g.S.Source.fault_count c.args.source.now) in
-    let o = watched f h s u rose before now in
-    let begins = subst (λ (b : Begun). IfSome base (λ described. Starts words described (start_meaning b))) c.in-Ok-Rejected.field-0-is c.in-Ok-Rejected.ensures.told in
     λ none. bad_words_end (rejection_meaning c.in-Ok-Rejected.rejection) status (watched f h s u ⊥ before now) c.reject.ensures.leaves (same_rejection (rejection_meaning c.in-Ok-Rejected.rejection) BadWords (sym (ap start_meaning c.in-Ok-Rejected.field-0-is) ∙ c.in-Ok-Rejected.ensures.at_once none)) c.reject.ensures.no_archive
 
 pub returns-in-Ok-Scans-clause-run : goal.returns-in-Ok-Scans-clause-run
@@ -443,9 +291,6 @@ pub returns-in-Ok-Scans-clause-rejects : goal.returns-in-Ok-Scans-clause-rejects
 returns-in-Ok-Scans-clause-rejects g c =
     let words = map string_bytes c.args.words.now in
     let base = g.B.BaseDir.files c.args.base.now in
-    let files = g.A.Archive.files c.args.archive.now in
-    let bytes = archived_bytes files segment_size in
-    let source = g.S.Source.rest c.args.source.now in
     let status = c.scan.result in
     let before = g.O.Sink.written c.args.out.now in
     let now = g.O.Sink.written c.scan.new.out in
@@ -453,8 +298,6 @@ returns-in-Ok-Scans-clause-rejects g c =
     let h = g.O.Sink.fault_count c.scan.new.out in
     let s = g.O.Sink.short_count c.args.out.now in
     let u = g.O.Sink.short_count c.scan.new.out in
-    let rose = Rose (g.S.Source.fault_count c.args.source.now) (g.S.Source.fault_count c.args.source.now) in
-    let o = watched f h s u rose before now in
     let begins = subst (λ (b : Begun). IfSome base (λ described. Starts words described (start_meaning b))) c.in-Ok-Scans.field-0-is c.in-Ok-Scans.ensures.told in
     not_rejecting words base (λ r. RejectionLeaves r status (watched f h s u ⊥ before now)) (Scans c.in-Ok-Scans.tables c.in-Ok-Scans.name.now) (scans_no_rejection c.in-Ok-Scans.tables c.in-Ok-Scans.name.now) begins
 
@@ -462,76 +305,21 @@ pub returns-in-Ok-Scans-clause-unasked : goal.returns-in-Ok-Scans-clause-unasked
 returns-in-Ok-Scans-clause-unasked g c =
     let words = map string_bytes c.args.words.now in
     let base = g.B.BaseDir.files c.args.base.now in
-    let files = g.A.Archive.files c.args.archive.now in
-    let bytes = archived_bytes files segment_size in
-    let source = g.S.Source.rest c.args.source.now in
-    let status = c.scan.result in
-    let before = g.O.Sink.written c.args.out.now in
-    let now = g.O.Sink.written c.scan.new.out in
-    let f = g.O.Sink.fault_count c.args.out.now in
-    let h = g.O.Sink.fault_count c.scan.new.out in
-    let s = g.O.Sink.short_count c.args.out.now in
-    let u = g.O.Sink.short_count c.scan.new.out in
-    let rose = Rose (g.S.Source.fault_count c.args.source.now) (g.S.Source.fault_count c.args.source.now) in
-    let o = watched f h s u rose before now in
     let begins = subst (λ (b : Begun). IfSome base (λ described. Starts words described (start_meaning b))) c.in-Ok-Scans.field-0-is c.in-Ok-Scans.ensures.told in
     not_rejecting words base (λ r. (g.A.Archive.fault_count c.scan.new.archive ≡ g.A.Archive.fault_count c.args.archive.now) × (g.S.Source.fault_count c.args.source.now ≡ g.S.Source.fault_count c.args.source.now)) (Scans c.in-Ok-Scans.tables c.in-Ok-Scans.name.now) (scans_no_rejection c.in-Ok-Scans.tables c.in-Ok-Scans.name.now) begins
 
 pub returns-in-Ok-Scans-clause-rejected : goal.returns-in-Ok-Scans-clause-rejected
 returns-in-Ok-Scans-clause-rejected g c =
-    let words = map string_bytes c.args.words.now in
-    let base = g.B.BaseDir.files c.args.base.now in
-    let files = g.A.Archive.files c.args.archive.now in
-    let bytes = archived_bytes files segment_size in
-    let source = g.S.Source.rest c.args.source.now in
     let status = c.scan.result in
-    let before = g.O.Sink.written c.args.out.now in
-    let now = g.O.Sink.written c.scan.new.out in
-    let f = g.O.Sink.fault_count c.args.out.now in
-    let h = g.O.Sink.fault_count c.scan.new.out in
-    let s = g.O.Sink.short_count c.args.out.now in
-    let u = g.O.Sink.short_count c.scan.new.out in
-    let rose = Rose (g.S.Source.fault_count c.args.source.now) (g.S.Source.fault_count c.args.source.now) in
-    let o = watched f h s u rose before now in
-    let begins = subst (λ (b : Begun). IfSome base (λ described. Starts words described (start_meaning b))) c.in-Ok-Scans.field-0-is c.in-Ok-Scans.ensures.told in
     λ is. absurd (not_answered status c.scan.ensures.statuses is)
 
 pub returns-in-Ok-Scans-clause-words : goal.returns-in-Ok-Scans-clause-words
 returns-in-Ok-Scans-clause-words g c =
-    let words = map string_bytes c.args.words.now in
-    let base = g.B.BaseDir.files c.args.base.now in
-    let files = g.A.Archive.files c.args.archive.now in
-    let bytes = archived_bytes files segment_size in
-    let source = g.S.Source.rest c.args.source.now in
     let status = c.scan.result in
-    let before = g.O.Sink.written c.args.out.now in
-    let now = g.O.Sink.written c.scan.new.out in
-    let f = g.O.Sink.fault_count c.args.out.now in
-    let h = g.O.Sink.fault_count c.scan.new.out in
-    let s = g.O.Sink.short_count c.args.out.now in
-    let u = g.O.Sink.short_count c.scan.new.out in
-    let rose = Rose (g.S.Source.fault_count c.args.source.now) (g.S.Source.fault_count c.args.source.now) in
-    let o = watched f h s u rose before now in
-    let begins = subst (λ (b : Begun). IfSome base (λ described. Starts words described (start_meaning b))) c.in-Ok-Scans.field-0-is c.in-Ok-Scans.ensures.told in
     λ two. absurd (not_answered status c.scan.ensures.statuses (inl two))
 
 pub returns-in-Ok-Scans-clause-other_words : goal.returns-in-Ok-Scans-clause-other_words
 returns-in-Ok-Scans-clause-other_words g c =
-    let words = map string_bytes c.args.words.now in
-    let base = g.B.BaseDir.files c.args.base.now in
-    let files = g.A.Archive.files c.args.archive.now in
-    let bytes = archived_bytes files segment_size in
-    let source = g.S.Source.rest c.args.source.now in
-    let status = c.scan.result in
-    let before = g.O.Sink.written c.args.out.now in
-    let now = g.O.Sink.written c.scan.new.out in
-    let f = g.O.Sink.fault_count c.args.out.now in
-    let h = g.O.Sink.fault_count c.scan.new.out in
-    let s = g.O.Sink.short_count c.args.out.now in
-    let u = g.O.Sink.short_count c.scan.new.out in
-    let rose = Rose (g.S.Source.fault_count c.args.source.now) (g.S.Source.fault_count c.args.source.now) in
-    let o = watched f h s u rose before now in
-    let begins = subst (λ (b : Begun). IfSome base (λ described. Starts words described (start_meaning b))) c.in-Ok-Scans.field-0-is c.in-Ok-Scans.ensures.told in
     λ none. absurd (scans_no_rejection c.in-Ok-Scans.tables c.in-Ok-Scans.name.now BadWords (sym (ap start_meaning c.in-Ok-Scans.field-0-is) ∙ c.in-Ok-Scans.ensures.at_once none))
 
 pub returns-in-Ok-Holds-clause-run : goal.returns-in-Ok-Holds-clause-run
@@ -577,9 +365,6 @@ pub returns-in-Ok-Holds-clause-rejects : goal.returns-in-Ok-Holds-clause-rejects
 returns-in-Ok-Holds-clause-rejects g c =
     let words = map string_bytes c.args.words.now in
     let base = g.B.BaseDir.files c.args.base.now in
-    let files = g.A.Archive.files c.args.archive.now in
-    let bytes = archived_bytes files segment_size in
-    let source = g.S.Source.rest c.args.source.now in
     let status = c.hold.result in
     let before = g.O.Sink.written c.args.out.now in
     let now = g.O.Sink.written c.hold.new.out in
@@ -587,8 +372,6 @@ returns-in-Ok-Holds-clause-rejects g c =
     let h = g.O.Sink.fault_count c.hold.new.out in
     let s = g.O.Sink.short_count c.args.out.now in
     let u = g.O.Sink.short_count c.hold.new.out in
-    let rose = Rose (g.S.Source.fault_count c.args.source.now) (g.S.Source.fault_count c.hold.new.source) in
-    let o = watched f h s u rose before now in
     let begins = subst (λ (b : Begun). IfSome base (λ described. Starts words described (start_meaning b))) c.in-Ok-Holds.field-0-is c.in-Ok-Holds.ensures.told in
     not_rejecting words base (λ r. RejectionLeaves r status (watched f h s u ⊥ before now)) (Holds c.in-Ok-Holds.tables) (holds_no_rejection c.in-Ok-Holds.tables) begins
 
@@ -596,74 +379,19 @@ pub returns-in-Ok-Holds-clause-unasked : goal.returns-in-Ok-Holds-clause-unasked
 returns-in-Ok-Holds-clause-unasked g c =
     let words = map string_bytes c.args.words.now in
     let base = g.B.BaseDir.files c.args.base.now in
-    let files = g.A.Archive.files c.args.archive.now in
-    let bytes = archived_bytes files segment_size in
-    let source = g.S.Source.rest c.args.source.now in
-    let status = c.hold.result in
-    let before = g.O.Sink.written c.args.out.now in
-    let now = g.O.Sink.written c.hold.new.out in
-    let f = g.O.Sink.fault_count c.args.out.now in
-    let h = g.O.Sink.fault_count c.hold.new.out in
-    let s = g.O.Sink.short_count c.args.out.now in
-    let u = g.O.Sink.short_count c.hold.new.out in
-    let rose = Rose (g.S.Source.fault_count c.args.source.now) (g.S.Source.fault_count c.hold.new.source) in
-    let o = watched f h s u rose before now in
     let begins = subst (λ (b : Begun). IfSome base (λ described. Starts words described (start_meaning b))) c.in-Ok-Holds.field-0-is c.in-Ok-Holds.ensures.told in
     not_rejecting words base (λ r. (g.A.Archive.fault_count c.hold.new.archive ≡ g.A.Archive.fault_count c.args.archive.now) × (g.S.Source.fault_count c.hold.new.source ≡ g.S.Source.fault_count c.args.source.now)) (Holds c.in-Ok-Holds.tables) (holds_no_rejection c.in-Ok-Holds.tables) begins
 
 pub returns-in-Ok-Holds-clause-rejected : goal.returns-in-Ok-Holds-clause-rejected
 returns-in-Ok-Holds-clause-rejected g c =
-    let words = map string_bytes c.args.words.now in
-    let base = g.B.BaseDir.files c.args.base.now in
-    let files = g.A.Archive.files c.args.archive.now in
-    let bytes = archived_bytes files segment_size in
-    let source = g.S.Source.rest c.args.source.now in
     let status = c.hold.result in
-    let before = g.O.Sink.written c.args.out.now in
-    let now = g.O.Sink.written c.hold.new.out in
-    let f = g.O.Sink.fault_count c.args.out.now in
-    let h = g.O.Sink.fault_count c.hold.new.out in
-    let s = g.O.Sink.short_count c.args.out.now in
-    let u = g.O.Sink.short_count c.hold.new.out in
-    let rose = Rose (g.S.Source.fault_count c.args.source.now) (g.S.Source.fault_count c.hold.new.source) in
-    let o = watched f h s u rose before now in
-    let begins = subst (λ (b : Begun). IfSome base (λ described. Starts words described (start_meaning b))) c.in-Ok-Holds.field-0-is c.in-Ok-Holds.ensures.told in
     λ is. absurd (not_answered status (held_as status c.hold.ensures.statuses) is)
 
 pub returns-in-Ok-Holds-clause-words : goal.returns-in-Ok-Holds-clause-words
 returns-in-Ok-Holds-clause-words g c =
-    let words = map string_bytes c.args.words.now in
-    let base = g.B.BaseDir.files c.args.base.now in
-    let files = g.A.Archive.files c.args.archive.now in
-    let bytes = archived_bytes files segment_size in
-    let source = g.S.Source.rest c.args.source.now in
     let status = c.hold.result in
-    let before = g.O.Sink.written c.args.out.now in
-    let now = g.O.Sink.written c.hold.new.out in
-    let f = g.O.Sink.fault_count c.args.out.now in
-    let h = g.O.Sink.fault_count c.hold.new.out in
-    let s = g.O.Sink.short_count c.args.out.now in
-    let u = g.O.Sink.short_count c.hold.new.out in
-    let rose = Rose (g.S.Source.fault_count c.args.source.now) (g.S.Source.fault_count c.hold.new.source) in
-    let o = watched f h s u rose before now in
-    let begins = subst (λ (b : Begun). IfSome base (λ described. Starts words described (start_meaning b))) c.in-Ok-Holds.field-0-is c.in-Ok-Holds.ensures.told in
     λ two. absurd (not_answered status (held_as status c.hold.ensures.statuses) (inl two))
 
 pub returns-in-Ok-Holds-clause-other_words : goal.returns-in-Ok-Holds-clause-other_words
 returns-in-Ok-Holds-clause-other_words g c =
-    let words = map string_bytes c.args.words.now in
-    let base = g.B.BaseDir.files c.args.base.now in
-    let files = g.A.Archive.files c.args.archive.now in
-    let bytes = archived_bytes files segment_size in
-    let source = g.S.Source.rest c.args.source.now in
-    let status = c.hold.result in
-    let before = g.O.Sink.written c.args.out.now in
-    let now = g.O.Sink.written c.hold.new.out in
-    let f = g.O.Sink.fault_count c.args.out.now in
-    let h = g.O.Sink.fault_count c.hold.new.out in
-    let s = g.O.Sink.short_count c.args.out.now in
-    let u = g.O.Sink.short_count c.hold.new.out in
-    let rose = Rose (g.S.Source.fault_count c.args.source.now) (g.S.Source.fault_count c.hold.new.source) in
-    let o = watched f h s u rose before now in
-    let begins = subst (λ (b : Begun). IfSome base (λ described. Starts words described (start_meaning b))) c.in-Ok-Holds.field-0-is c.in-Ok-Holds.ensures.told in
     λ none. absurd (holds_no_rejection c.in-Ok-Holds.tables BadWords (sym (ap start_meaning c.in-Ok-Holds.field-0-is) ∙ c.in-Ok-Holds.ensures.at_once none))

@@ -1,8 +1,9 @@
 use Rattle.std.proofs.Common.{sym, arith}
 use Rattle.wal_record.proofs.Laid.{laid_out-none, laid_out-unfilled, laid_out-compressed}
-use Rattle.wal_record.proofs.Shaping.{bytes-are, laid-there, payloads-behind}
+use Rattle.wal_record.proofs.Shaping.{laid-there, payloads-behind}
 use Rattle.wal_record.proofs.view.laid_out.Goals as goal
 use Rattle.wal_record.proofs.view.laid_out.Goals.{then-payloads-seen-via-then-payloads-seen, then-payloads-seen-via-else-payloads-seen+then-payloads-seen-2}
+use Rattle.pg_types.proofs.Bytes.{bytes-are}
 
 pub returns-in_default : goal.returns-in_default
 returns-in_default c = λ head. laid_out-none head c.args.text.now (sym (c.in_default.ensures {u = tt}))

@@ -8,7 +8,7 @@ use xact_redo::XactState;
 /// What the steps of a case have built, layer by layer. `state` is the records' own; the layers below it are
 /// asked by themselves.
 #[derive(Drop)]
-pub struct Session {
+pub struct Layers {
     pub log: CommitLog,
     pub subs: Subtrans,
     pub known: KnownAssigned,
@@ -16,9 +16,9 @@ pub struct Session {
     pub state: XactState,
 }
 
-impl Session {
-    pub fn new(alloc: Global) -> Session {
-        Session {
+impl Layers {
+    pub fn new(alloc: Global) -> Layers {
+        Layers {
             log: CommitLog::new(alloc),
             subs: Subtrans::new(alloc),
             known: KnownAssigned::new(alloc),

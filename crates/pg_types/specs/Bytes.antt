@@ -1,0 +1,6 @@
+-- Numbers of a text that are bytes.
+use Rattle.std.specs.Prelude.{ℕ, ◌<◌, List, All}
+
+-- each number is a byte
+abbrev pub AreBytes : List ℕ → Type 0
+AreBytes bytes = All (λ byte. byte < 256) bytes
