@@ -83,21 +83,23 @@ def length(start, end):
 
 
 class Log:
-    """A log of bench/redo/make_log.c, which is made in a folder, by the word MIB:BLOCKS."""
+    """A log of bench/redo/make_log.c, which is made in a folder, by the word MIB:BLOCKS, or MIB:xN where each block is
+    filled, pruned and filled again N times."""
 
     def __init__(self, folder, word):
-        mib, self.blocks = (int(n) for n in word.split(":"))
+        mib, shape = word.split(":")
         source = os.path.join(os.path.dirname(os.path.abspath(__file__)), "redo", "make_log.c")
         maker = os.path.join(folder, "make_log")
         subprocess.run(["gcc", "-O2", "-o", maker, source], check=True)
-        words = [maker, str(mib), str(self.blocks)]
+        words = [maker, mib] + (["rounds", shape[1:]] if shape.startswith("x") else [shape])
         out = subprocess.run(words, cwd=folder, check=True, stdout=subprocess.PIPE, text=True).stdout
         os.mkdir(os.path.join(folder, "base"))
         with open(os.path.join(folder, "base", "schema.toml"), "w") as file:
             file.write(SCHEMA)
         self.start, self.end = out.split()[:2]
         self.kinds = {kind: int(count) for kind, count in re.findall(r"(\w+)=(\d+)", out)}
-        self.name = "%d MiB over %d blocks" % (mib, self.blocks)
+        self.blocks = self.kinds.pop("blocks")
+        self.name = "%s MiB over %d blocks" % (mib, self.blocks)
         self.size = length(self.start, self.end)
 
     def tell(self, runs):

@@ -2,7 +2,7 @@
 processor time (user and system), the speed and the peak memory of each, and how time and memory grow from each log to
 the last one: with as many blocks, and with blocks that grow with the log.
 
-usage: compare.py BENCH_LAYERS MIB:BLOCKS ..
+usage: compare.py BENCH_LAYERS MIB:BLOCKS|MIB:xN ..
 """
 import os
 import subprocess

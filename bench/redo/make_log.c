@@ -3,6 +3,7 @@
  * folder: of system 7, timeline 1, from 0/2000028 on.
  *
  *     make_log MIB BLOCKS
+ *     make_log MIB rounds N
  *
  * It begins with what a backup leaves: a running-transactions record, an online checkpoint whose redo it is, and the
  * end of the backup. Then come transactions of one change each, with its commit, in the table with the file
@@ -13,6 +14,9 @@
  *
  * A page holds 75 tuples. Where the blocks have room for all versions of rows (no more than 70 a block), none is
  * removed, as where a snapshot is held all the time; else a block without room is pruned before its next update.
+ *
+ * With `rounds` each block has 15 rows, and is filled with versions, pruned and filled again N times; there are as many
+ * blocks as such lives make MIB of log. The updates go to blocks that are drawn by chance, until each had its last one.
  *
  * Prints where the log begins and ends, and its records by kind.
  */
@@ -31,7 +35,9 @@ enum {
     DATA = 4 + 1 + NOTE,  /* bytes of a tuple behind its header of 24: the id, the note's length byte, the note */
     TUPLE = 104,          /* bytes that a tuple takes in its page: 100, up to a multiple of 8 */
     LINES = 291,          /* lines that a page has at most (MaxHeapTuplesPerPage) */
-    ROWS = 70             /* rows that are inserted into a block at most */
+    ROWS = 70,            /* rows that are inserted into a block at most */
+    FEW = 15,             /* rows that are inserted into a block that is filled again and again */
+    ROUND = 60            /* updates from one prune of such a block to the next: 75 tuples and 15 lines that lead on */
 };
 
 static const uint64_t START = 2 * (uint64_t)SEGMENT + 40;
@@ -219,11 +225,12 @@ struct row {
     char note[NOTE];
 };
 
-/* A block: which of its lines are in use, how many lines, tuples and rows it has, and the last id that made one dead. */
+/* A block: which of its lines are in use, how many lines, tuples and rows it has, the last id that made one dead, and
+ * how often it was pruned. */
 struct block {
     uint8_t used[LINES + 1];
     uint16_t lines, tuples, rows;
-    uint32_t removed;
+    uint32_t removed, prunes;
 };
 
 static struct block *blocks;
@@ -361,6 +368,7 @@ static void prune(uint32_t block)
     to = u16(u16(u32(to, b->removed), redirects), 0);
     append(text, u8(to, 0), 0, 0x10, 9);
     b->removed = 0;
+    b->prunes++;
     prunes++;
 }
 
@@ -381,20 +389,37 @@ static void update_some(uint32_t xid, uint32_t count, uint32_t each, int may_pru
     update(xid, block * each + number, block, &rows[(uint64_t)block * ROWS + number]);
 }
 
-int main(int argc, char **argv)
+/* The blocks that are not filled for the last time yet. */
+static uint32_t *open_blocks, open_count;
+
+/* Updates a row that is drawn by chance, in a block that is drawn among those that are open: where it has no room it is
+ * pruned, or was pruned so often as it is to be, and is open no more. Answers whether a block was open. */
+static int update_open(uint32_t xid, uint32_t rounds)
 {
-    uint64_t mib = argc == 3 ? strtoull(argv[1], NULL, 10) : 0;
-    uint64_t count = argc == 3 ? strtoull(argv[2], NULL, 10) : 0;
-    uint64_t expected = (mib << 20) / 181; /* so many bytes a transaction has */
-    uint64_t each = count ? expected / 3 / count : 0;
-    if (mib < 1 || mib > 2000 || count < 1 || count > 1000000 || each < 1 || each > 62) {
-        fprintf(stderr, "usage: make_log MIB BLOCKS, with 32 to 1000 BLOCKS for each MIB\n");
-        return 2;
+    while (open_count > 0) {
+        uint32_t place = (uint32_t)(draw() % open_count), block = open_blocks[place];
+        if (room(&blocks[block]) < TUPLE && blocks[block].prunes == rounds) {
+            open_blocks[place] = open_blocks[--open_count];
+            continue;
+        }
+        if (room(&blocks[block]) < TUPLE)
+            prune(block);
+        uint32_t number = (uint32_t)(draw() % FEW);
+        update(xid, block * FEW + number, block, &rows[(uint64_t)block * ROWS + number]);
+        return 1;
     }
+    return 0;
+}
+
+static void begin(uint64_t count)
+{
     blocks = calloc(count, sizeof *blocks);
     rows = calloc(count * ROWS, sizeof *rows);
-    if (!blocks || !rows)
+    open_blocks = calloc(count, sizeof *open_blocks);
+    if (!blocks || !rows || !open_blocks)
         fail("no memory");
+    for (uint64_t block = 0; block < count; block++)
+        open_blocks[open_count++] = (uint32_t)block;
     if (mkdir("archive", 0777))
         fail("cannot make the folder archive");
     make_crc_table();
@@ -403,19 +428,70 @@ int main(int argc, char **argv)
     running(FIRST_XID);
     checkpoint();
     backup_end();
-    uint32_t xid = FIRST_XID;
-    for (; at < START + (mib << 20); xid++) {
+}
+
+/* The end of a transaction. */
+static void end_of(uint32_t xid)
+{
+    commit(xid);
+    if ((xid - FIRST_XID) % 65536 == 65535)
+        running(xid + 1);
+}
+
+static void inserts_and_updates(uint64_t mib, uint64_t count, uint64_t each, uint64_t expected)
+{
+    begin(count);
+    for (uint32_t xid = FIRST_XID; at < START + (mib << 20); xid++) {
         uint32_t number = xid - FIRST_XID;
         if (number < count * each)
             insert(xid, number, (uint32_t)(number / each));
         else
             update_some(xid, (uint32_t)count, (uint32_t)each, expected > 70 * count);
-        commit(xid);
-        if (number % 65536 == 65535)
-            running(xid + 1);
+        end_of(xid);
+    }
+}
+
+static void filled_again(uint64_t count, uint32_t rounds)
+{
+    begin(count);
+    uint32_t xid = FIRST_XID;
+    for (; xid - FIRST_XID < count * FEW; xid++) {
+        insert(xid, xid - FIRST_XID, (xid - FIRST_XID) / FEW);
+        end_of(xid);
+    }
+    for (; update_open(xid, rounds); xid++)
+        end_of(xid);
+}
+
+static int usage(void)
+{
+    fprintf(stderr, "usage: make_log MIB BLOCKS, with 32 to 1000 BLOCKS for each MIB\n"
+                    "       make_log MIB rounds N, with N from 1 to 1000\n");
+    return 2;
+}
+
+int main(int argc, char **argv)
+{
+    uint64_t mib = argc > 2 ? strtoull(argv[1], NULL, 10) : 0, count;
+    if (mib < 1 || mib > 2000)
+        return usage();
+    if (argc == 4 && strcmp(argv[2], "rounds") == 0) {
+        uint64_t rounds = strtoull(argv[3], NULL, 10);
+        /* so many bytes one block's inserts, its updates, and its prunes have */
+        count = (mib << 20) / (FEW * 177 + (rounds + 1) * ROUND * 185 + rounds * 241);
+        if (rounds < 1 || rounds > 1000 || count < 1)
+            return usage();
+        filled_again(count, (uint32_t)rounds);
+    } else {
+        count = argc == 3 ? strtoull(argv[2], NULL, 10) : 0;
+        uint64_t expected = (mib << 20) / 181; /* so many bytes a transaction has */
+        uint64_t each = count ? expected / 3 / count : 0;
+        if (count < 1 || count > 1000000 || each < 1 || each > 62)
+            return usage();
+        inserts_and_updates(mib, count, each, expected);
     }
     store();
-    printf("0/%" PRIX64 " 0/%" PRIX64 " records=%" PRIu64 " inserts=%" PRIu64 " updates=%" PRIu64 " prunes=%" PRIu64 "\n",
-           START, at, records, inserts, updates, prunes);
+    printf("0/%" PRIX64 " 0/%" PRIX64 " blocks=%" PRIu64 " records=%" PRIu64 " inserts=%" PRIu64 " updates=%" PRIu64
+           " prunes=%" PRIu64 "\n", START, at, count, records, inserts, updates, prunes);
     return 0;
 }

@@ -3,7 +3,7 @@ ghost use Rattle.std.specs.Prelude.{◌≡◌, ◌+◌};
 ghost use Rattle.xact_redo.specs.State.{AreIdsInRange};
 
 use pg_types::{Lsn, Xid};
-use wal_bodies::{Rec, RecBlocks, RecKind, Xids};
+use wal_bodies::{Locators, Rec, RecBlocks, RecKind, Xids};
 use wal_record::RecordHead;
 
 /// The id of the first transaction.
@@ -93,6 +93,7 @@ pub fn end<'a>(number: u32) -> Rec<'a>
         time: 0,
         xinfo: 0,
         xids: Xids::none(),
+        files: Locators::none(),
     };
     record(head, position_of(number), kind)
 }

@@ -1,9 +1,9 @@
 ghost use Rattle.std.specs.Prelude.{◌≡◌, ◌≤◌, length};
 
-use byteorder::{ByteOrder, LittleEndian};
 use case_text::{Answer, Wrong, bytes, number_u8, number_u16, number_u32, place};
 use heap_page::{HeapPage, Item};
 use heap_tuple::TupleView;
+use pg_types::Place;
 use std::alloc::Global;
 
 /// A tuple's first 23 bytes, by xmin, xmax, command id, ctid, infomask2, infomask and hoff
@@ -11,21 +11,29 @@ use std::alloc::Global;
 pub fn header(fields: &[&str]) -> Result<[u8; 23], Wrong> {
     match *fields {
         [xmin, xmax, cid, ctid, mask2, mask, hoff] => {
-            let at = place(ctid)?;
-            let mut head = [0u8; 23];
-            LittleEndian::write_u32(&mut head[0..4], number_u32(xmin)?);
-            LittleEndian::write_u32(&mut head[4..8], number_u32(xmax)?);
-            LittleEndian::write_u32(&mut head[8..12], number_u32(cid)?);
-            LittleEndian::write_u16(&mut head[12..14], (at.block / 65536) as u16);
-            LittleEndian::write_u16(&mut head[14..16], (at.block % 65536) as u16);
-            LittleEndian::write_u16(&mut head[16..18], at.line);
-            LittleEndian::write_u16(&mut head[18..20], number_u16(mask2)?);
-            LittleEndian::write_u16(&mut head[20..22], number_u16(mask)?);
-            head[22] = number_u8(hoff)?;
-            Ok(head)
+            let ids = [number_u32(xmin)?, number_u32(xmax)?, number_u32(cid)?];
+            let masks = [number_u16(mask2)?, number_u16(mask)?];
+            Ok(header_of(ids, place(ctid)?, masks, number_u8(hoff)?))
         }
         _ => Err(Wrong::Line),
     }
+}
+
+fn header_of(ids: [u32; 3], ctid: Place, masks: [u16; 2], hoff: u8) -> [u8; 23] {
+    let (xmin, xmax, cid) = (
+        ids[0].to_le_bytes(),
+        ids[1].to_le_bytes(),
+        ids[2].to_le_bytes(),
+    );
+    let block = ctid.block.to_le_bytes();
+    let line = ctid.line.to_le_bytes();
+    let (mask2, mask) = (masks[0].to_le_bytes(), masks[1].to_le_bytes());
+    // (of a block's number the higher half stands first)
+    [
+        xmin[0], xmin[1], xmin[2], xmin[3], xmax[0], xmax[1], xmax[2], xmax[3], cid[0], cid[1],
+        cid[2], cid[3], block[2], block[3], block[0], block[1], line[0], line[1], mask2[0],
+        mask2[1], mask[0], mask[1], hoff,
+    ]
 }
 
 /// A tuple by the fields of its header, and its bytes from 23 on.

@@ -22,6 +22,7 @@ mod pools;
 mod printed;
 mod record_changes;
 mod records;
+mod removals;
 mod rows;
 mod scans;
 mod snapshots;

@@ -1,8 +1,9 @@
 //! How a record in typed form is shown.
+use crate::removals::{show_lines, show_removal};
 use case_text::{Answer, Wrong};
 use pg_types::{Locator, Xid};
 use std::alloc::Global;
-use wal_bodies::{Lines, NewTuple, Rec, RecBlock, RecImage, RecKind, Xids};
+use wal_bodies::{Locators, LockEntries, NewTuple, Rec, RecBlock, RecImage, RecKind, Xids};
 
 /// A record: its transaction and info, where it begins and ends, what it says, and its blocks.
 pub fn show(alloc: Global, rec: &Rec<'_>) -> Result<String, Wrong> {
@@ -24,6 +25,17 @@ fn show_kind(answer: &mut Answer, rec: &Rec<'_>) {
         RecKind::Checkpoint { .. } => show_checkpoint(answer, &rec.kind),
         RecKind::Parameters { .. } => show_parameters(answer, &rec.kind),
         RecKind::Ended { .. } | RecKind::Running { .. } => show_xacts(answer, rec),
+        RecKind::Truncate {
+            block,
+            locator,
+            flags,
+        } => {
+            show_locator(answer, "truncate ", *locator);
+            answer.field(" to ", u64::from(*block));
+            answer.say(" flags ");
+            answer.signed(i64::from(*flags));
+        }
+        RecKind::Locks { entries } => show_locks(answer, entries.again()),
         RecKind::BackupEnd { start } => answer.position("backup-end ", *start),
         RecKind::FullPageWrites { on: true } => answer.say("page-writes on"),
         RecKind::FullPageWrites { on: false } => answer.say("page-writes off"),
@@ -91,7 +103,12 @@ fn show_parameters(answer: &mut Answer, kind: &RecKind<'_>) {
 
 fn show_xacts(answer: &mut Answer, rec: &Rec<'_>) {
     match &rec.kind {
-        RecKind::Ended { time, xinfo, xids } => {
+        RecKind::Ended {
+            time,
+            xinfo,
+            xids,
+            files,
+        } => {
             answer.say(if rec.head.info & 0x70 == 0 {
                 "commit time "
             } else {
@@ -100,6 +117,7 @@ fn show_xacts(answer: &mut Answer, rec: &Rec<'_>) {
             answer.signed(*time);
             answer.hex(" xinfo 0x", u64::from(*xinfo));
             show_xids(answer, xids.again());
+            show_files(answer, files.again());
         }
         RecKind::Running {
             tops,
@@ -135,15 +153,37 @@ fn show_xids(answer: &mut Answer, xids: Xids<'_>) {
     }
 }
 
-/// Lines in the same way.
-fn show_lines(answer: &mut Answer, lines: Lines<'_>) {
+/// Files in the same way.
+fn show_files(answer: &mut Answer, files: Locators<'_>) {
     let mut is_first = true;
-    for line in lines {
-        answer.field(if is_first { " lines " } else { "," }, u64::from(line));
+    for file in files {
+        show_locator(answer, if is_first { " files " } else { "," }, file);
         is_first = false;
     }
     if is_first {
-        answer.say(" lines -");
+        answer.say(" files -");
+    }
+}
+
+/// A file as its tablespace, its database and its own number.
+fn show_locator(answer: &mut Answer, name: &str, locator: Locator) {
+    let Locator { space, db, rel } = locator;
+    answer.field(name, u64::from(space));
+    answer.field("/", u64::from(db));
+    answer.field("/", u64::from(rel));
+}
+
+/// Locks in the same way, each as its transaction, its database and its relation.
+fn show_locks(answer: &mut Answer, entries: LockEntries<'_>) {
+    let mut is_first = true;
+    for entry in entries {
+        answer.field(if is_first { "locks " } else { "," }, entry.xid.0);
+        answer.field(" ", u64::from(entry.database));
+        answer.field("/", u64::from(entry.relation));
+        is_first = false;
+    }
+    if is_first {
+        answer.say("locks -");
     }
 }
 
@@ -174,9 +214,10 @@ fn show_heap(answer: &mut Answer, kind: &RecKind<'_>) {
         RecKind::Confirm { line } => answer.field("confirm line ", u64::from(*line)),
         RecKind::MultiInsert { flags, lines } => {
             answer.mask("multi-insert flags ", &[*flags]);
-            show_lines(answer, lines.again());
+            show_lines(answer, " lines ", lines.again());
         }
-        _ => show_update(answer, kind),
+        RecKind::Update { .. } => show_update(answer, kind),
+        _ => show_removal(answer, kind),
     }
 }
 
@@ -207,11 +248,8 @@ fn show_update(answer: &mut Answer, kind: &RecKind<'_>) {
 
 /// A block, with its image and its tuples.
 fn show_block(answer: &mut Answer, block: &RecBlock<'_>) {
-    let Locator { space, db, rel } = block.locator;
     answer.field("; block ", u64::from(block.id));
-    answer.field(" ", u64::from(space));
-    answer.field("/", u64::from(db));
-    answer.field("/", u64::from(rel));
+    show_locator(answer, " ", block.locator);
     answer.field(" ", u64::from(block.block));
     if block.will_init {
         answer.say(" anew");

@@ -138,14 +138,10 @@ fn sees(
 /// The header of a tuple without values (`HeapTupleHeaderData`, htup_details.h): xmin at 0, xmax at 4, infomask
 /// at 20 and its own length at 22.
 fn header(xids: [u32; 2], mask: u16) -> [u8; 24] {
-    let mut bytes = [0u8; 24];
-    let parts = [xids[0].to_le_bytes(), xids[1].to_le_bytes()];
-    for i in 0..4 {
-        bytes[i] = parts[0][i];
-        bytes[4 + i] = parts[1][i];
-    }
-    bytes[20] = (mask % 256) as u8;
-    bytes[21] = (mask / 256) as u8;
-    bytes[22] = 24;
-    bytes
+    let (xmin, xmax) = (xids[0].to_le_bytes(), xids[1].to_le_bytes());
+    let mask = mask.to_le_bytes();
+    [
+        xmin[0], xmin[1], xmin[2], xmin[3], xmax[0], xmax[1], xmax[2], xmax[3], 0, 0, 0, 0, 0, 0,
+        0, 0, 0, 0, 0, 0, mask[0], mask[1], 24, 0,
+    ]
 }

@@ -14,8 +14,9 @@ use Rattle.wal_bodies.specs.declared.types.RecBlock.{RecBlock}
 use Rattle.heap_redo.specs.After.{BlockRefusal, no_page, bad_page, Content, missing, broken, page, applied, is_images, page_of_image, made_anew, paged, changed, changed_page, after_change, after_image, after}
 use Rattle.heap_redo.specs.declared.fault.RedoFault.{RedoFault}
 use Rattle.page_store.specs.Seen.{Seen, absent, bad_block, seen_page, seen, View}
-use Rattle.heap_redo.specs.Redone.{content_of, stamped, is_anew, is_left, has_reached, left_by, redone_block, with_seen, or_zero_block, grown, view_with, table_of, view_by, redone_in, redone_at, Outcome, and_then, redone, Stands}
+use Rattle.heap_redo.specs.Redone.{content_of, stamped, is_anew, is_left, has_reached, left_by, redone_block, with_seen, or_zero_block, grown, view_with, table_of, view_by, redone_in, redone_at, Outcome, and_then, redone, cut_by, redone_record, Stands}
 use Rattle.heap_redo.proofs.OneBlock.{left-kept, redone-done, redone-by, left-ok, after-anew, after-restored}
+use Rattle.heap_redo.proofs.Cuts.{uncut-redone, cut-redone, uncut-all, cut-repeated}
 use Rattle.heap_redo.proofs.Sequence.{same-view, same-answer, redone-append, redone-first, redone-none}
 use Rattle.page_store.proofs.Blocks.{at-here}
 use Rattle.heap_redo.proofs.Views.{cond_view}
@@ -328,18 +329,34 @@ module _ (rec : Rec) (known : List Locator) where
   prefix (block ∷ blocks) old new result e =
       then-prefix block blocks old new result (λ next h. prefix blocks next new result h) (redone_at rec known block old) refl e
 
-  stands-prefix : (old new : View) (result : Result (Unit {0}) RedoFault) → Stands rec known old new result → Prefix rec.blocks old new
+  stands-prefix : (old new : View) (result : Result (Unit {0}) RedoFault) → cut_by rec rec.kind known old ≡ None → Stands rec known old new result → Prefix rec.blocks old new
   unfolding Prefix
-  stands-prefix old new result (inl memory) = (memory.1.done, memory.1.stands)
-  stands-prefix old new result (inr e) = prefix rec.blocks old new result e
+  stands-prefix old new result uncut (inl memory) = (memory.1.done, memory.1.stands)
+  stands-prefix old new result uncut (inr e) = prefix rec.blocks old new result (sym (uncut-redone rec known old uncut) ∙ e)
 
-  pub repeated : (old new : View) (result : Result (Unit {0}) RedoFault) → Stands rec known old new result → redone rec known rec.blocks new ≡ redone rec known rec.blocks old
+  repeated : (old new : View) (result : Result (Unit {0}) RedoFault) → cut_by rec rec.kind known old ≡ None → Stands rec known old new result → redone rec known rec.blocks new ≡ redone rec known rec.blocks old
   unfolding Prefix Agrees
-  repeated old new result stands =
-      let found = stands-prefix old new result stands in
+  repeated old new result uncut stands =
+      let found = stands-prefix old new result uncut stands in
       let first = take found.0 rec.blocks in
       let rest = drop found.0 rec.blocks in
       let whole = sym (take-append-drop found.0 rec.blocks) in
       ap (λ xs. redone rec known xs new) whole
       ∙ redone-append rec known first rest new new (again first old new new found.1 (λ t b. inr refl))
       ∙ sym (ap (λ xs. redone rec known xs old) whole ∙ redone-append rec known first rest old new found.1)
+
+  by_cut : (old new : View) (result : Result (Unit {0}) RedoFault) → Stands rec known old new result → (o : Option View) → cut_by rec rec.kind known old ≡ o → redone_record rec known new ≡ redone_record rec known old
+  by_cut old new result stands None e =
+      uncut-redone rec known new (uncut-all rec known old new e)
+      ∙ repeated old new result e stands
+      ∙ sym (uncut-redone rec known old e)
+  by_cut old new result (inl memory) (Some left) e =
+      let bad : ⊥ = let both = sym e ∙ memory.1.uncut in cc in absurd bad
+  by_cut old new result (inr h) (Some left) e =
+      let whole = cut-redone rec known old left e in
+      let same = same-view left new (Ok tt) result (sym whole ∙ h) in
+      ap (redone_record rec known) (sym same) ∙ cut-redone rec known left left (cut-repeated rec known old left e) ∙ sym whole
+
+  -- a repeated call leaves what one call does
+  pub record-repeated : (old new : View) (result : Result (Unit {0}) RedoFault) → Stands rec known old new result → redone_record rec known new ≡ redone_record rec known old
+  record-repeated old new result stands = by_cut old new result stands (cut_by rec rec.kind known old) refl

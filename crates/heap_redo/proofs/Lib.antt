@@ -6,4 +6,6 @@ pub mod Marks
 pub mod OneBlock
 pub mod Views
 pub mod Sequence
+pub mod Cuts
 pub mod Again
+pub mod Pruned

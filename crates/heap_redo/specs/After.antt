@@ -2,9 +2,11 @@
 -- heap_xlog_insert and its like; xlogutils.c, XLogReadBufferForRedo).
 use Rattle.std.specs.Prelude.{ℕ, ◌+◌, ◌-◌, ◌==◌, Bool, true, false, bit_and, nat_lt, List, [], ◌∷◌, ◌++◌, length, take, drop, Option, Some, None, Result, Ok, Err, if◌then◌else◌}
 use Rattle.heap_tuple.specs.Tuple.{hoff_of}
-use Rattle.heap_page.specs.Item.{Item, normal, with_item, numbered, tuple_in}
+use Rattle.heap_page.specs.Item.{Item, unused, normal, redirect, dead, is_unused, with_item, numbered, tuple_in}
 use Rattle.heap_page.specs.Page.{items_of, is_page}
-use Rattle.heap_page.specs.Put.{put_answer, set_head_answer, with_head, restored}
+use Rattle.heap_page.specs.Put.{put_answer, set_line_answer, set_head_answer, with_head, restored}
+use Rattle.record_fields.specs.declared.entries.Redirect.{Redirect}
+use Rattle.record_fields.specs.declared.entries.FreezePlan.{FreezePlan}
 use Rattle.heap_page.specs.declared.line.PageError.{PageError}
 use Rattle.heap_page.specs.declared.line.PageError.TheVariants.{Full, NoLine, BadPage}
 use Rattle.wal_bodies.specs.declared.types.RecImage.{RecImage}
@@ -12,9 +14,9 @@ use Rattle.wal_bodies.specs.declared.types.NewTuple.{NewTuple}
 use Rattle.wal_bodies.specs.declared.types.RecBlock.{RecBlock}
 use Rattle.wal_bodies.specs.declared.types.Rec.{Rec}
 use Rattle.wal_bodies.specs.declared.types.RecKind.{RecKind}
-use Rattle.wal_bodies.specs.declared.types.RecKind.TheVariants.{Checkpoint, BackupEnd, Parameters, FullPageWrites, Images, Overwrite, Ended, Running, Insert, Delete, Update, Confirm, Lock, MultiInsert, LockUpdated, Other}
+use Rattle.wal_bodies.specs.declared.types.RecKind.TheVariants.{Checkpoint, BackupEnd, Parameters, FullPageWrites, Images, Overwrite, Ended, Running, Insert, Delete, Update, Confirm, Lock, MultiInsert, LockUpdated, Prune, Vacuum, Freeze, Visible, Truncate, Locks, Other}
 pub use Rattle.wal_bodies.specs.Typed.{number_of}
-use Rattle.heap_redo.specs.TupleHeads.{Head, head_of, head_bytes, marked, pointing_to, deleted, replaced, locked}
+use Rattle.heap_redo.specs.TupleHeads.{Head, head_of, head_bytes, marked, pointing_to, deleted, replaced, locked, frozen}
 
 -- why a record is refused at a block: the block is missing, a line is not as the record has it, there is
 -- no room for a tuple that goes to a line, or the page is none
@@ -129,6 +131,51 @@ update rec block old_xmax old_line old_bits new_xmax new_line (Some new_block) N
     update_within rec block (bit_and rec.head.info 0x70 == 0x40) old_xmax old_line old_bits new_xmax new_line items
 update rec block old_xmax old_line old_bits new_xmax new_line None old_block items = Ok items
 
+-- a line that is in use becomes this
+unfoldable pub set_line : ℕ → Item → List Item → Result (List Item) BlockRefusal
+set_line line item items = answered line (with_item items (line - 1) item) (set_line_answer items line)
+
+-- lines become this, one after the other
+unfoldable pub set_lines : Item → List ℕ → List Item → Result (List Item) BlockRefusal
+set_lines item [] items = Ok items
+set_lines item (line ∷ lines) items = do
+  next ← set_line line item items
+  set_lines item lines next
+
+-- a line leads to another, which is in use
+unfoldable pub redirect_line : Redirect → List Item → Result (List Item) BlockRefusal
+redirect_line line items = do
+  next ← set_line line.from (redirect line.to) items
+  if is_unused (numbered items line.to) then Err (no_tuple line.to) else Ok next
+
+unfoldable pub redirect_lines : List Redirect → List Item → Result (List Item) BlockRefusal
+redirect_lines [] items = Ok items
+redirect_lines (line ∷ lines) items = do
+  next ← redirect_line line items
+  redirect_lines lines next
+
+-- a page is pruned: lines lead to others, then lines are dead, then lines are unused (heap_page_prune_execute,
+-- pruneheap.c)
+unfoldable pub prune : List Redirect → List ℕ → List ℕ → List Item → Result (List Item) BlockRefusal
+prune redirected died freed items = do
+  led ← redirect_lines redirected items
+  left ← set_lines dead died led
+  set_lines unused freed left
+
+-- the tuples of these lines are frozen by a plan, one after the other (heap_execute_freeze_tuple)
+unfoldable pub freeze_lines : FreezePlan → List ℕ → List Item → Result (List Item) BlockRefusal
+freeze_lines plan [] items = Ok items
+freeze_lines plan (line ∷ lines) items = do
+  next ← change_head line (λ head. frozen plan.xmax.0 plan.mask2 plan.mask head) items
+  freeze_lines plan lines next
+
+-- each plan freezes its lines
+unfoldable pub freeze : List FreezePlan → List Item → Result (List Item) BlockRefusal
+freeze [] items = Ok items
+freeze (plan ∷ plans) items = do
+  next ← freeze_lines plan plan.lines items
+  freeze plans next
+
 -- what a record of this kind changes in the items of a block
 unfoldable pub changed : Rec → RecBlock → RecKind → List Item → Result (List Item) BlockRefusal
 changed rec block (Checkpoint redo timeline previous writes next multi member oldest active) items = Ok items
@@ -137,7 +184,7 @@ changed rec block (Parameters connections processes senders prepared locks level
 changed rec block (FullPageWrites on) items = Ok items
 changed rec block Images items = Ok items
 changed rec block (Overwrite given_up time) items = Ok items
-changed rec block (Ended time xinfo xids) items = Ok items
+changed rec block (Ended time xinfo xids files) items = Ok items
 changed rec block (Running tops subs overflow next oldest latest xids) items = Ok items
 changed rec block (Insert line flags) items = put_listed rec.head.xid.0 block.block (line ∷ []) block.tuples items
 changed rec block (Delete xmax line bits flags) items =
@@ -150,6 +197,12 @@ changed rec block (Lock xmax line bits flags) items =
 changed rec block (MultiInsert flags lines) items = put_listed rec.head.xid.0 block.block lines block.tuples items
 changed rec block (LockUpdated xmax line bits flags) items =
     change_head line (λ head. marked xmax.0 bits head) items
+changed rec block (Prune horizon catalogue redirected died freed) items = prune redirected died freed items
+changed rec block (Vacuum freed) items = set_lines unused freed items
+changed rec block (Freeze horizon catalogue plans) items = freeze plans items
+changed rec block (Visible horizon flags) items = Ok items
+changed rec block (Truncate number locator flags) items = Ok items
+changed rec block (Locks entries) items = Ok items
 changed rec block Other items = Ok items
 
 -- the page of an image
@@ -171,7 +224,7 @@ abbrev pub paged : Result (List Item) BlockRefusal → Result Content BlockRefus
 paged (Ok items) = Ok (page items)
 paged (Err refusal) = Err refusal
 
--- a record of images changes nothing of a block without one
+-- a record of images changes nothing of a block without one, and so does one of visibility
 abbrev pub is_images : RecKind → Bool
 is_images (Checkpoint redo timeline previous writes next multi member oldest active) = false
 is_images (BackupEnd start) = false
@@ -179,7 +232,7 @@ is_images (Parameters connections processes senders prepared locks level) = fals
 is_images (FullPageWrites on) = false
 is_images Images = true
 is_images (Overwrite given_up time) = false
-is_images (Ended time xinfo xids) = false
+is_images (Ended time xinfo xids files) = false
 is_images (Running tops subs overflow next oldest latest xids) = false
 is_images (Insert line flags) = false
 is_images (Delete xmax line bits flags) = false
@@ -188,6 +241,12 @@ is_images (Confirm line) = false
 is_images (Lock xmax line bits flags) = false
 is_images (MultiInsert flags lines) = false
 is_images (LockUpdated xmax line bits flags) = false
+is_images (Prune horizon catalogue redirected died freed) = false
+is_images (Vacuum freed) = false
+is_images (Freeze horizon catalogue plans) = false
+is_images (Visible horizon flags) = true
+is_images (Truncate number locator flags) = false
+is_images (Locks entries) = false
 is_images Other = false
 
 -- the change of a page that is there, or is made anew

@@ -6,13 +6,16 @@ use Rattle.pg_types.specs.declared.names.Locator.{Locator}
 use Rattle.page_store.specs.Content.{zeros, is_at}
 use Rattle.wal_bodies.specs.declared.types.Rec.{Rec}
 use Rattle.wal_bodies.specs.declared.types.RecBlock.{RecBlock}
+use Rattle.wal_bodies.specs.declared.types.RecKind.{RecKind}
+use Rattle.wal_bodies.specs.declared.types.RecKind.TheVariants.{Ended, Truncate}
+use Rattle.wal_bodies.specs.Typed.{is_commit}
+use Rattle.pg_types.specs.Locators.{same_locator}
 use Rattle.heap_redo.specs.After.{BlockRefusal, no_page, Content, missing, broken, page, applied, is_images, after}
 use Rattle.heap_redo.specs.declared.fault.RedoFault.{RedoFault}
 use Rattle.heap_redo.specs.declared.fault.RedoFault.TheVariants.{Memory}
 use Rattle.heap_redo.specs.declared.fault.BlockFault.{BlockFault}
 use Rattle.heap_redo.specs.Refused.{refusal_of, fault_at}
 use Rattle.page_store.specs.Seen.{Seen, absent, bad_block, seen_page, seen, View}
-use Rattle.pg_types.specs.Locators.{same_locator}
 
 -- what the change of a block starts from
 abbrev pub content_of : Seen → Content
@@ -99,11 +102,41 @@ abbrev pub and_then : View → Result View RedoFault → (View → Outcome) → 
 and_then view (Ok next) f = f next
 and_then view (Err fault) f = (view, Err fault)
 
--- What redo of a record leaves of the blocks, and its answer: its blocks one after the other, up to the
--- first that is refused.
+-- what redo of these blocks of a record leaves of all, and its answer: one after the other, up to the first that is
+-- refused
 unfoldable pub redone : Rec → List Locator → List RecBlock → View → Outcome
 redone rec known [] view = (view, Ok tt)
 redone rec known (block ∷ blocks) view = and_then view (redone_at rec known block view) (λ next. redone rec known blocks next)
+
+-- Blocks that are taken away (smgr_redo, xact_redo_commit).
+
+-- a table is cut to so many blocks
+unfoldable pub cut : ℕ → View → ℕ → View
+cut table view blocks t b = if (t == table) && nat_le blocks b then absent else view t b
+
+abbrev pub cut_file : View → ℕ → Option ℕ → View
+cut_file view blocks None = view
+cut_file view blocks (Some table) = cut table view blocks
+
+-- the tables that have these files are dropped
+abbrev pub drop_files : List Locator → List Locator → View → View
+drop_files known [] view = view
+drop_files known (file ∷ files) view = drop_files known files (cut_file view 0 (table_of known file))
+
+-- what a record of this kind leaves by what it takes away: a truncation blocks of one table, a commit the tables that it
+-- drops; none for another kind, which changes its blocks
+abbrev pub cut_by : Rec → RecKind → List Locator → View → Option View
+cut_by rec (Truncate blocks locator flags) known view = Some (cut_file view blocks (table_of known locator))
+cut_by rec (Ended time xinfo xids files) known view = Some (if is_commit rec.head then drop_files known files view else view)
+cut_by rec kind known view = None
+
+abbrev pub redone_unless : Rec → List Locator → View → Option View → Outcome
+redone_unless rec known view None = redone rec known rec.blocks view
+redone_unless rec known view (Some left) = (left, Ok tt)
+
+-- what redo of a record leaves of the blocks of the described tables, and its answer
+unfoldable pub redone_record : Rec → List Locator → View → Outcome
+redone_record rec known view = redone_unless rec known view (cut_by rec rec.kind known view)
 
 -- the blocks, where no block's change was refused
 abbrev pub view_outcome : View → Result (Unit {0}) RedoFault → Result View RedoFault
@@ -133,6 +166,7 @@ fault_outcome bytes (Err fault) = Err fault
 -- Memory ran out after so many of the record's blocks, at one whose change is not refused.
 pub record RanOut (rec : Rec) (known : List Locator) (old new : View) : Type 0 where
   pub done : ℕ
+  pub uncut : cut_by rec rec.kind known old ≡ None
   pub stands : redone rec known (take done rec.blocks) old ≡ (new, Ok tt)
   pub next : RecBlock
   pub is_next : slice_get rec.blocks done ≡ Some next
@@ -142,4 +176,4 @@ pub record RanOut (rec : Rec) (known : List Locator) (old new : View) : Type 0 w
 -- its blocks, where memory ran out.
 abbrev pub Stands : Rec → List Locator → View → View → Result (Unit {0}) RedoFault → Type 0
 Stands rec known old new result =
-    ((result ≡ Err Memory) × RanOut rec known old new) ⊎ (redone rec known rec.blocks old ≡ (new, result))
+    ((result ≡ Err Memory) × RanOut rec known old new) ⊎ (redone_record rec known old ≡ (new, result))

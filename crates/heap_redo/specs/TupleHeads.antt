@@ -96,3 +96,7 @@ unlinked_if_locked block line head =
 -- the header of a tuple that is locked where it stands
 unfoldable pub locked : ℕ → ℕ → ℕ → ℕ → Head → Head
 locked xmax bits block line head = unlinked_if_locked block line (marked xmax bits head)
+
+-- the header of a tuple that is frozen: its xmax and both masks are the plan's (heap_execute_freeze_tuple, heapam.h)
+abbrev pub frozen : ℕ → ℕ → ℕ → Head → Head
+frozen xmax mask2 mask head = record head { xmax = xmax; mask2 = mask2; mask = mask }

@@ -20,12 +20,12 @@ fn has_applied(block: &RecBlock<'_>) -> bool
     }
 }
 
-/// Whether the record is one of images.
+/// Whether the record changes nothing of a block without an image: it is one of images, or of visibility.
 fn is_images(rec: &Rec<'_>) -> bool
     ensures { result ≡ is_images rec.now.kind }
 {
     match &rec.kind {
-        RecKind::Images => true,
+        RecKind::Images | RecKind::Visible { .. } => true,
         _ => false,
     }
 }

@@ -6,13 +6,14 @@ ghost use Rattle.heap_redo.specs.Refused.{outcome};
 use crate::fault::BlockFault;
 use crate::head::Versions;
 use crate::line::{confirm, delete, lock, lock_updated};
+use crate::prune::{freeze, prune, vacuum};
 use crate::update::update;
 use crate::version::{insert, put_listed};
 use heap_page::HeapPage;
 use wal_bodies::{Rec, RecBlock, RecKind};
 
 /// What a record changes in the page of a block. Where it is refused the page stays as it is: what may
-/// be refused is tested before it writes, and only a multi-insert keeps the page, to put it back.
+/// be refused is tested before it writes; a change of several lines keeps the page, to put it back.
 #[tactic(auto, unfolding(crate::specs::After::changed))]
 pub fn change(page: &mut HeapPage, rec: &Rec<'_>, block: &RecBlock<'_>) -> Result<(), BlockFault>
     ensures answer { outcome (items_of page.new) result
@@ -62,6 +63,14 @@ pub fn change(page: &mut HeapPage, rec: &Rec<'_>, block: &RecBlock<'_>) -> Resul
             bits,
             ..
         } => lock_updated(page, *line, xmax.0, *bits),
+        RecKind::Prune {
+            redirected,
+            died,
+            freed,
+            ..
+        } => prune(page, redirected, died, freed),
+        RecKind::Vacuum { freed } => vacuum(page, freed),
+        RecKind::Freeze { plans, .. } => freeze(page, plans),
         _ => Ok(()),
     }
 }

@@ -1,6 +1,6 @@
 ghost use Rattle.std.specs.Prelude.{◌≡◌, ◌+◌, ◌≤◌, ◌++◌, length, take};
 ghost use Rattle.byteorder.specs.Endian.{little_bytes};
-ghost use Rattle.heap_redo.specs.TupleHeads.{head_of, head_bytes, set_for, marked_mask, marked_mask2, marked, pointing_to, hot, pointing_after_delete, taken_back, deleted, replaced, unlinked_if_locked, locked};
+ghost use Rattle.heap_redo.specs.TupleHeads.{head_of, head_bytes, set_for, marked_mask, marked_mask2, marked, pointing_to, hot, pointing_after_delete, taken_back, deleted, replaced, unlinked_if_locked, locked, frozen};
 
 use crate::bits::{
     EXCLUSIVE, KEY_SHARE, KEYS_UPDATED, LOCK_ONLY, PARTITION_MOVE, TAKEN_BACK, XMAX_BITS, has_bits,
@@ -201,6 +201,18 @@ impl Header {
         ensures { head_in result ≡ locked xmax bits block line (head_in self) }
     {
         self.marked(xmax, bits).unlinked_if_locked(block, line)
+    }
+
+    /// The header of a tuple that is frozen: its xmax and both masks are these.
+    pub fn frozen(self, xmax: u64, mask2: u16, mask: u16) -> Header
+        ensures { head_in result ≡ frozen xmax mask2 mask (head_in self) }
+    {
+        Header {
+            xmax,
+            mask2,
+            mask,
+            ..self
+        }
     }
 }
 

@@ -5,10 +5,12 @@
 mod bits;
 mod block;
 mod change;
+mod cut;
 mod fault;
 mod head;
 mod law;
 mod line;
+mod prune;
 mod replay;
 mod update;
 mod version;

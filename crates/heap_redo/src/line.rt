@@ -2,7 +2,7 @@ ghost use Rattle.std.specs.Prelude.{◌≡◌, ◌-◌, ◌++◌, Err, IfOk, IfE
 ghost use Rattle.heap_page.specs.Item.{normal, with_item, numbered, tuple_in};
 ghost use Rattle.heap_page.specs.Page.{items_of};
 ghost use Rattle.heap_page.specs.Put.{set_head_answer};
-ghost use Rattle.heap_redo.specs.TupleHeads.{Head, head_of, head_bytes, marked, pointing_to, deleted, replaced, locked};
+ghost use Rattle.heap_redo.specs.TupleHeads.{Head, head_of, head_bytes, marked, pointing_to, deleted, replaced, locked, frozen};
 ghost use Rattle.heap_redo.specs.After.{answered, with_header, change_head, update_old, put};
 ghost use Rattle.heap_redo.specs.Heads.{head_in, headed};
 ghost use Rattle.heap_redo.specs.Refused.{refusal_of, outcome};
@@ -130,6 +130,23 @@ pub fn lock_updated(page: &mut HeapPage, line: u16, xmax: u64, bits: u8) -> Resu
 {
     let header = header_at(page, line)?;
     put_header(page, line, header.marked(xmax, bits))
+}
+
+/// The tuple of a line is frozen.
+#[tactic(auto, unfolding(crate::specs::After::change_head))]
+pub fn freeze_tuple(
+    page: &mut HeapPage,
+    line: u16,
+    xmax: u64,
+    mask2: u16,
+    mask: u16,
+) -> Result<(), BlockFault>
+    ensures answer { outcome (items_of page.new) result
+        ≡ change_head line (λ head. frozen xmax mask2 mask head) (items_of page.old) }
+    ensures err { OnErr result (page.new ≡ page.old) }
+{
+    let header = header_at(page, line)?;
+    put_header(page, line, header.frozen(xmax, mask2, mask))
 }
 
 /// A tuple of this header and these bytes behind it goes to a free line.

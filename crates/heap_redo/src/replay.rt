@@ -1,26 +1,19 @@
-ghost use Rattle.std.specs.Prelude.{◌≡◌, ◌<◌, ◌≤◌, ◌^◌, true, false, length, None, Some, IfSome, OnErr};
+ghost use Rattle.std.specs.Prelude.{◌≡◌, ◌<◌, ◌≤◌, ◌^◌, true, false, length, None, Some, OnErr};
 ghost use Rattle.page_store.specs.Content.{content, table_count};
 ghost use Rattle.heap_redo.specs.After.{applied};
 ghost use Rattle.page_store.specs.Seen.{seen, view_of};
 ghost use Rattle.heap_redo.specs.OneBlock.{IsChanged, IsRedone};
-ghost use Rattle.heap_redo.specs.Redone.{fault_by, fault_outcome, is_anew, redone_block, table_of, redone_in, redone_at, view_outcome, Stands};
+ghost use Rattle.heap_redo.specs.Redone.{fault_by, fault_outcome, is_anew, redone_block, redone_in, redone_at, cut_by, view_outcome, Stands};
 ghost use Rattle.table_schema.specs.Description.{locators};
 
 use crate::block::{anew, changed, is_anew, is_left};
+use crate::cut::{cut, table_of};
 use crate::fault::{BlockFault, RedoFault, fault_at, pool_fault};
 use heap_page::{HeapPage, PageImage, shows_page};
 use page_store::Pool;
 use pg_types::{Locator, Tag};
 use table_schema::Tables;
 use wal_bodies::{Rec, RecBlock, RecImage};
-
-/// The number of the table that has this file.
-fn table_of(known: &[Locator], locator: Locator) -> Option<usize>
-    ensures value { result ≡ table_of known.now locator }
-    ensures bound { IfSome result (λ table. table < length known.now) }
-{
-    known.iter().position(|described| *described == locator)
-}
 
 /// Changes the page of a block, or answers why not.
 fn change_page(page: &mut HeapPage, rec: &Rec<'_>, block: &RecBlock<'_>) -> Result<(), RedoFault>
@@ -165,11 +158,12 @@ fn redo_block(
     }
 }
 
-/// Applies a record to the blocks of the tables of which `known` has the files, in the order of their
-/// numbers.
+/// Applies a record that changes its blocks to those of the tables of which `known` has the files, in the
+/// order of their numbers.
 fn redo_blocks(rec: &Rec<'_>, known: &[Locator], pool: &mut Pool) -> Result<(), RedoFault>
     requires tables { length known.now ≤ table_count pool.old }
     requires few { length known.now < 2 ^ 16 }
+    requires uncut { cut_by rec.now rec.now.kind known.now (view_of (content pool.old)) ≡ None }
     ensures answer { Stands rec.now known.now (view_of (content pool.old)) (view_of (content pool.new)) result }
     ensures tables { table_count pool.new ≡ table_count pool.old }
 {
@@ -181,19 +175,27 @@ fn redo_blocks(rec: &Rec<'_>, known: &[Locator], pool: &mut Pool) -> Result<(), 
 
 /// Applies a record to the blocks of the described tables. Blocks of other tables are passed over.
 ///
+/// A truncation cuts its table to its number of blocks (`smgr_redo`, storage.c), and a commit takes all
+/// blocks of the tables whose files it drops (`xact_redo_commit`, xact.c); the files of an abort stay. Any
+/// other record changes its blocks.
+///
 /// An image that is to be applied is restored whatever the page's position, and a block that the record
 /// makes anew begins without items. Else the change is skipped where the page's position is at least the
 /// record's end. Afterwards the page's position is the record's end.
 ///
 /// # Errors
-/// Each fault but `Memory` names the place. Each block is then as before the
-/// record or after it, the blocks up to one after and the others before, and the record is refused again.
-/// After `Memory` too, and the block at which it came is not refused; a repeated call then leaves what one
-/// call leaves.
+/// A record that takes blocks away is not refused, and takes no memory. Each fault but `Memory` names the
+/// place. Each block is then as before the record or after it, the blocks up to one after and the others
+/// before, and the record is refused again. After `Memory` too, and the block at which it came is not
+/// refused; a repeated call then leaves what one call leaves.
 pub fn redo(rec: &Rec<'_>, tables: &Tables, pool: &mut Pool) -> Result<(), RedoFault>
     requires tables { length tables.now.tables ≤ table_count pool.old }
     ensures answer { Stands rec.now (locators tables.now) (view_of (content pool.old)) (view_of (content pool.new)) result }
     ensures tables { table_count pool.new ≡ table_count pool.old }
 {
-    redo_blocks(rec, tables.locators(), pool)
+    let known = tables.locators();
+    if cut(pool, known, rec) {
+        return Ok(());
+    }
+    redo_blocks(rec, known, pool)
 }

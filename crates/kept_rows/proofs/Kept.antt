@@ -1,5 +1,5 @@
 -- A scan reads, after further records, the versions that stood as it was opened.
-use Rattle.std.proofs.Common.{◌≡◌, ℕ, ◌<◌, ◌≤◌, Bool, true, false, not, ◌&&◌, List, [], ◌∷◌, ◌++◌, All, Result, Ok, Option, Some, None, arith, refl, sym, ap, ◌∙◌, subst}
+use Rattle.std.proofs.Common.{◌≡◌, ℕ, ◌<◌, ◌≤◌, Bool, true, false, not, List, [], ◌∷◌, ◌++◌, All, Result, Ok, Option, Some, None, arith, refl, sym, ap, ◌∙◌, subst, inl, inr}
 use Rattle.std.proofs.lemmas.Bool.{and_left, both_ways}
 use Rattle.std.proofs.lemmas.List.Elements.{All-tail}
 use Rattle.pg_types.specs.declared.names.Locator.{Locator}
@@ -26,11 +26,12 @@ use Rattle.row_model.specs.Prefixes.{PrefixIsLegal}
 use Rattle.row_redo.specs.Shown.{BlocksShowVersions}
 use Rattle.row_redo.proofs.Tables.{legal_rows}
 use Rattle.row_visibility.specs.Sees.{SeesOpened, state_along}
-use Rattle.row_pages.specs.Pages.{ReadsPlace, ReadsSeen, ReadsTable, ScanGivesRead}
+use Rattle.row_pages.specs.Pages.{ReadsNothing, ReadsPlace, ReadsSeen, ReadsTable, ReadsTested, ScanGivesRead}
+use Rattle.row_pages.proofs.Reading.{not_seen, tested}
 use Rattle.row_pages.proofs.SameRow.{row_same}
 use Rattle.kept_rows.specs.Kept.{KeepsRows}
-use Rattle.kept_rows.proofs.Along.{carried_along, count_along}
-use Rattle.kept_rows.proofs.Carried.{AreCarried, CarriedAt, IsKept, IsNew}
+use Rattle.kept_rows.proofs.Along.{carried_along, count_along, still_there}
+use Rattle.kept_rows.proofs.Carried.{AreCarried, CarriedAt, IsKept, IsNew, kept_row}
 use Rattle.row_model.proofs.Shown.{none_there}
 
 -- the log at the opening is legal
@@ -58,41 +59,46 @@ module _ (o : LogOrigin) (later opened : List Rec) (columns : List Column) (sees
   abbrev was_row : Version → Bool
   was_row v = is_row (multixacts opened) was v
 
-  -- one that was born since is no row
+  -- a line without a tuple gives nothing
+  empty_read : (item : Item) → is_normal item ≡ false → ReadsNothing sees item
+  empty_read item none tuple is = absurd (both_ways (is_normal item) none (ap is_normal is))
+
+  -- nor does one of which a version was born since: that is no row
   new_unseen : (v : Version) → IsNew was v → was_row v ≡ false
   new_unseen v new = and_left (counts was v.inserter) (not (is_deleted (multixacts opened) was v.deleter)) new.uncounted
 
   new_frozen : (v : Version) → IsNew was v → v.frozen ≡ true → counts was v.inserter ≡ true
   new_frozen v new h = absurd (both_ways v.frozen new.thawed h)
 
-  -- one that stood is a row exactly where it was
-  kept_row : (old v : Version) → IsKept opened was old v → was_row v ≡ was_row old
-  kept_row old v kept =
-      ap (λ (t : Bool). t && not (is_deleted (multixacts opened) was v.deleter)) kept.inserter
-      ∙ ap (λ (t : Bool). counts was old.inserter && not t) kept.deleter
+  new_read :
+      (v : Version) (item : Item) → IsNew was v → ShowsPlace o (later ++ opened) (Some v) item → IsSound o (later ++ opened) v
+      → ReadsNothing sees item
+  new_read v item new (tuple, is, shown) sound =
+      not_seen columns sees item tuple is (seen v tuple shown sound (new_frozen v new) ∙ ap Ok (new_unseen v new))
 
-  kept_frozen : (old v : Version) → IsKept opened was old v → IsSound o opened old → v.frozen ≡ true → counts was v.inserter ≡ true
-  kept_frozen old v kept sound h = kept.inserter ∙ sound.frozen (sym kept.frozen ∙ h)
+  -- one that was no row is not missed
+  no_row_read : (old : Version) (item : Item) → was_row old ≡ false → ReadsNothing sees item → ReadsTested columns sees (was_row old) old item
+  no_row_read old item none reads = subst (λ (t : Bool). ReadsTested columns sees t old item) (sym none) reads
+
+  -- one that stood is read exactly where it was a row
+  kept_read :
+      (old v : Version) (item : Item) → IsKept opened was old v → ShowsPlace o (later ++ opened) (Some v) item
+      → IsSound o (later ++ opened) v × (23 ≤ hoff_of v.tuple) → ReadsTested columns sees (was_row old) old item
+  kept_read old v item kept (tuple, is, shown) (sound, behind) =
+      tested columns sees (was_row old) old item tuple is
+      (seen v tuple shown sound kept.frozen ∙ ap Ok (kept_row opened was old v kept))
+      (row_same tuple v.tuple columns shown.row behind ∙ ap (λ (t : List ℕ). row_of t columns) kept.tuple)
 
   place_read :
       (old place : Option Version) (item : Item) → CarriedAt opened was old place → ShowsPlace o (later ++ opened) place item
       → ((v : Version) → place ≡ Some v → IsSound o (later ++ opened) v × (23 ≤ hoff_of v.tuple))
-      → ((v : Version) → old ≡ Some v → IsSound o opened v) → ReadsPlace columns sees was_row old item
-  place_read None None item carried shows known knew = λ tuple is. absurd (both_ways (is_normal item) shows (ap is_normal is))
-  place_read (Some old) None item carried shows known knew = cc
-  place_read None (Some v) item new (tuple, is, shown) known knew =
-      λ other e.
-      let same : tuple ≡ other = cc in
-      let (sound, behind) = known v refl in
-      subst (λ (t : List ℕ). sees t ≡ Ok false) same
-      (seen v tuple shown sound (new_frozen v new) ∙ ap Ok (new_unseen v new))
-  place_read (Some old) (Some v) item kept (tuple, is, shown) known knew =
-      let (sound, behind) = known v refl in (
-        tuple,
-        is,
-        seen v tuple shown sound (kept_frozen old v kept (knew old refl)) ∙ ap Ok (kept_row old v kept),
-        row_same tuple v.tuple columns shown.row behind ∙ ap (λ (t : List ℕ). row_of t columns) kept.tuple,
-      )
+      → ReadsPlace columns sees was_row old item
+  place_read None None item none shows known = empty_read item shows
+  place_read (Some old) None item none shows known = no_row_read old item none (empty_read item shows)
+  place_read None (Some v) item new shows known = new_read v item new shows (known v refl).0
+  place_read (Some old) (Some v) item (inl kept) shows known = kept_read old v item kept shows (known v refl)
+  place_read (Some old) (Some v) item (inr (none, new)) shows known =
+      no_row_read old item none (new_read v item new shows (known v refl).0)
 
   module _ (old vs : List Version) (first count : ℕ) (before blocks : ℕ → Seen) (grows : first ≤ count)
       (carried : AreCarried opened was old vs) (then_shown : ShowsTable o opened old first before)
@@ -106,7 +112,6 @@ module _ (o : LogOrigin) (later opened : List Rec) (columns : List Column) (sees
         λ line.
         place_read (version_at block line old) (version_at block line vs) (numbered items line) (carried block line) (shows line)
         (λ v e. (table.sound block line v e, table.behind_header block line v e))
-        (λ v e. then_shown.sound block line v e)
 
     pub table_read : ReadsTable columns sees was_row old first blocks
     table_read =
@@ -118,18 +123,23 @@ module _ (o : LogOrigin) (later opened : List Rec) (columns : List Column) (sees
         }
 
 pub keeps_rows : PrefixIsLegal → BlocksShowVersions → SeesOpened → ScanGivesRead → KeepsRows
-keeps_rows prefix blocks_show sees_opened gives o known later opened view table locator columns here empty none legal rises fits ready done =
+keeps_rows prefix blocks_show sees_opened gives o known later opened view table locator columns xmin here empty none legal rises fits ready is_xmin present unlocked free done =
     let log : List Rec = later ++ opened in
     let sees : List ℕ → Result Bool Unknown = sees_by (take_of (state_along opened).known) (state_along log) in
     let legal_before = legal_then prefix o known later opened legal in
+    let along = (legal_rows known locator table here o log legal.rows).along in
     let shown_before =
     blocks_show o known opened legal_before.view table locator here empty legal_before (rises_then later opened rises)
-    (fits_then later opened fits) legal_before.redone in
-    let shown_now = blocks_show o known log view table locator here empty legal rises fits done in
+    (fits_then later opened fits) legal_before.redone present in
+    let shown_now =
+    blocks_show o known log view table locator here empty legal rises fits done
+    (still_there o locator opened xmin is_xmin present unlocked shown_before.sound later along free) in
     let reads =
     table_read o later opened columns sees (sees_opened o later opened none legal.transactions ready)
     (versions o locator opened) (versions o locator log) (block_count o locator opened) (block_count o locator log)
-    (legal_before.view table) (view table) (count_along o locator later opened)
-    (carried_along o locator later opened (legal_rows known locator table here o log legal.rows).along) shown_before shown_now in
+    (legal_before.view table) (view table)
+    (count_along o locator opened xmin is_xmin present unlocked shown_before.sound later along free)
+    (carried_along o locator opened xmin is_xmin present unlocked shown_before.sound later along legal.transactions free)
+    shown_before shown_now in
     gives columns sees (multixacts opened) (committed_in o opened) (versions o locator opened) (block_count o locator opened)
     (view table) reads

@@ -1,5 +1,9 @@
 mod Along
 mod Carried
+mod Free
 mod Kept
-mod Plain
+mod ReuseLog
+mod Since
+mod Unlocked
 mod WorkedKept
+mod WorkedReuse

@@ -1,7 +1,7 @@
 -- What an open scan gives of a table while further records are replayed.
 -- Sources: heapam.c (initscan reads the number of blocks as a scan begins, heapgetpage tests each tuple by the scan's
 -- snapshot), snapmgr.c (GetActiveSnapshot), access/transam/README.
-use Rattle.std.specs.Prelude.{◌≡◌, ℕ, List, ◌++◌, All, Some, Ok}
+use Rattle.std.specs.Prelude.{◌≡◌, ℕ, false, List, [], ◌++◌, All, Some, Ok}
 use Rattle.pg_types.specs.declared.names.Locator.{Locator}
 use Rattle.heap_tuple.specs.declared.cell.Column.{Column}
 use Rattle.wal_bodies.specs.declared.types.Rec.{Rec}
@@ -10,25 +10,32 @@ use Rattle.page_store.specs.Seen.{View}
 use Rattle.heap_redo.specs.Redone.{table_of}
 use Rattle.known_assigned.specs.declared.state.State.TheVariants.{Ready}
 use Rattle.standby_snapshot.specs.Snapshot.{take_of}
+use Rattle.transaction_model.specs.Transactions.{IsXmin}
 use Rattle.xact_redo.specs.Sees.{sees_by}
+use Rattle.xact_redo.specs.TransactionsOf.{transactions_of}
 use Rattle.record_numbers.specs.Fits.{RecordFits}
 use Rattle.row_model.specs.Versions.{Version}
 use Rattle.row_model.specs.Origins.{BeginsEmpty, LogOrigin, committed_in}
 use Rattle.row_model.specs.Multixacts.{multixacts}
+use Rattle.row_model.specs.Locks.{is_gone, locks}
 use Rattle.row_model.specs.RowSteps.{block_count, versions, view_after}
 use Rattle.row_model.specs.Rows.{IsRows}
 use Rattle.row_model.specs.LegalRows.{LegalLog}
+use Rattle.row_model.specs.Conflicts.{AreFree}
 use Rattle.row_visibility.specs.Sees.{HasNoStatuses, state_along}
 use Rattle.row_pages.specs.Pages.{AreScanned}
 
--- a snapshot that was taken as a scan was opened, over the log `opened`, sees in the blocks that the table had then, after
--- any further records, exactly the rows that were committed at the opening
+-- A scan is opened over the log `opened`, where the table was not dropped and no lock of it is in force. After further
+-- records of which none conflicts with it, its snapshot sees, in the blocks that the table had at the opening, exactly the
+-- rows that were committed then.
 abbrev pub KeepsRows : Type 0
 KeepsRows =
     (o : LogOrigin) (known : List Locator) (later opened : List Rec) (view : View) (table : ℕ) (locator : Locator)
-    (columns : List Column) → table_of known locator ≡ Some table → BeginsEmpty o → HasNoStatuses o.transactions.at
+    (columns : List Column) (xmin : ℕ) → table_of known locator ≡ Some table → BeginsEmpty o → HasNoStatuses o.transactions.at
     → LegalLog o known (later ++ opened) → Rises 0 (later ++ opened) → All RecordFits (later ++ opened)
-    → (state_along opened).known.mode ≡ Ready → view_after o known (later ++ opened) ≡ Ok view
+    → (state_along opened).known.mode ≡ Ready → IsXmin o.transactions.at xmin (transactions_of opened)
+    → is_gone locator opened ≡ false → locks o locator opened ≡ [] → AreFree o locator xmin later
+    → view_after o known (later ++ opened) ≡ Ok view
     → (rows : List Version) × IsRows (multixacts opened) (committed_in o opened) (versions o locator opened) rows
     × AreScanned columns (sees_by (take_of (state_along opened).known) (state_along (later ++ opened)))
     (block_count o locator opened) (view table) rows

@@ -1,10 +1,10 @@
 -- What the log of a standby gives: it is legal, its records rise and fit, and the blocks show the versions.
-use Rattle.std.proofs.Common.{◌≡◌, ℕ, ◌<◌, Bool, nat_lt, List, [], ◌∷◌, ◌++◌, All, Result, Some, Ok, Err, arith, refl, sym, ap, ◌∙◌, inl, inr}
+use Rattle.std.proofs.Common.{◌≡◌, ℕ, ◌<◌, Bool, false, nat_lt, List, [], ◌∷◌, ◌++◌, All, Result, Some, Ok, Err, arith, refl, sym, ap, ◌∙◌, inl, inr}
 use Rattle.std.proofs.lemmas.Bool.{cases_order, false≢true, le-ltb, lt-ltb}
 use Rattle.wal_bodies.specs.declared.types.Rec.{Rec}
 use Rattle.wal_bodies.specs.Ends.{Rises}
 use Rattle.heap_redo.specs.declared.fault.RedoFault.{RedoFault}
-use Rattle.heap_redo.specs.Redone.{redone, table_of, view_outcome}
+use Rattle.heap_redo.specs.Redone.{redone_record, table_of, view_outcome}
 use Rattle.page_store.specs.Seen.{View, Seen, absent, bad_block, seen_page}
 use Rattle.record_numbers.specs.Bytes.{TellsBytes}
 use Rattle.record_numbers.specs.Fits.{RecordFits}
@@ -13,9 +13,10 @@ use Rattle.row_model.specs.Versions.{Version}
 use Rattle.row_model.specs.Origins.{BeginsEmpty, LogOrigin}
 use Rattle.row_model.specs.RowSteps.{block_count, versions, view_after, view_with_record}
 use Rattle.row_model.specs.LegalRows.{LegalLog}
+use Rattle.row_model.specs.Locks.{is_gone}
 use Rattle.row_model.specs.Shown.{ShowsSeen, ShowsTable}
 use Rattle.row_redo.specs.Shown.{BlocksShowVersions}
-use Rattle.row_visibility.specs.Sees.{StateAlong}
+use Rattle.row_visibility.specs.Sees.{StateAlong, XminAlong}
 use Rattle.kept_rows.specs.Kept.{KeepsRows}
 use Rattle.table_schema.specs.Description.{locators}
 use Rattle.table_schema.specs.Laws.{TablesAreApart}
@@ -39,6 +40,7 @@ pub record Laws : Type 0 where
   pub logs : LogLaws
   pub apart : TablesAreApart
   pub along : StateAlong
+  pub xmin : XminAlong
   pub keeps : KeepsRows
 
 -- what a standby lives in is as the laws ask for
@@ -82,11 +84,11 @@ module _ (laws : LogLaws) (w : World) (start : ℕ) (good : IsGood w start) (log
 
   pub table_shown :
       (view : View) (table : ℕ) → view_after (log_origin w) (locators w.tables) log ≡ Ok view
-      → table_of (locators w.tables) (file_of w.tables table) ≡ Some table
+      → table_of (locators w.tables) (file_of w.tables table) ≡ Some table → is_gone (file_of w.tables table) log ≡ false
       → ShowsTable (log_origin w) log (versions (log_origin w) (file_of w.tables table) log)
       (block_count (log_origin w) (file_of w.tables table) log) (view table)
-  table_shown view table is described =
-      laws.shown (log_origin w) (locators w.tables) log view table (file_of w.tables table) described (begins_empty w) legal_log log_rises log_fits is
+  table_shown view table is described there =
+      laws.shown (log_origin w) (locators w.tables) log view table (file_of w.tables table) described (begins_empty w) legal_log log_rises log_fits is there
 
 -- where the outcome of redo gives blocks, there was no fault
 left_is :
@@ -105,10 +107,10 @@ left_is (blocks, Err fault) view e = cc
 pub redone_is :
     (w : World) (rec : Rec) (older : List Rec) (was view : View) → view_after (log_origin w) (locators w.tables) older ≡ Ok was
     → view_after (log_origin w) (locators w.tables) (rec ∷ older) ≡ Ok view
-    → redone rec (locators w.tables) rec.blocks was ≡ (view, Ok tt)
+    → redone_record rec (locators w.tables) was ≡ (view, Ok tt)
 unfolding view_after view_with_record
 redone_is w rec older was view before after =
-    left_is (redone rec (locators w.tables) rec.blocks was) view
+    left_is (redone_record rec (locators w.tables) was) view
     (sym (ap (λ (r : Result View RedoFault). view_with_record rec (locators w.tables) r) before) ∙ after)
 
 -- one number is that of the blocks

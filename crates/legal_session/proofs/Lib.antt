@@ -1,6 +1,17 @@
+mod AtEnd
 mod Described
 mod Facts
 pub mod Fitting
+mod Gone
+mod Locks
+mod GivenChanges
+mod GivenHolds
+mod GivenKept
+mod GivenPages
+mod GivenScans
+mod GivenSessions
+mod GivenStages
+mod Nexts
 mod Pages
 mod Placed
 mod Scans

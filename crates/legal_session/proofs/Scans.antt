@@ -1,12 +1,20 @@
 -- The held scans of a node and of the abstract standby, one for one.
-use Rattle.std.proofs.Common.{◌≡◌, ℕ, ◌+◌, ◌<◌, ◌==◌, Bool, true, false, nat_lt, List, [], ◌∷◌, ◌++◌, length, Option, Some, None, arith, refl, sym, ap, subst, if◌then◌else◌, inr}
+use Rattle.std.proofs.Common.{◌≡◌, ℕ, ◌+◌, ◌<◌, ◌==◌, Bool, true, false, nat_lt, List, [], ◌∷◌, ◌++◌, length, map, Option, Some, None, arith, refl, sym, ap, ◌∙◌, subst, if◌then◌else◌, inr}
 use Rattle.std.specs.Prelude.{is_some}
 use Rattle.std.proofs.lemmas.Bool.{lt-ltb, ltb-true}
+use Rattle.std.proofs.lemmas.List.Elements.{All-cons}
+use Rattle.heap_redo.specs.Redone.{table_of}
+use Rattle.recovery_conflict.specs.declared.locks.Cause.{Cause}
+use Rattle.recovery_conflict.specs.Causes.{cause_of}
+use Rattle.row_model.specs.Conflicts.{conflicts}
+use Rattle.table_schema.specs.Description.{locators}
+use Rattle.table_schema.specs.Tables.{file_of}
 use Rattle.wal_bodies.specs.declared.types.Rec.{Rec}
 use Rattle.seq_scan.specs.Scans.{OpenScan, after_page, has_more}
 use Rattle.standby_core.specs.declared.scans.NodeScan.{NodeScan}
+use Rattle.standby_core.specs.Conflicts.{cancelled_by, cancelled_one, first_cause, oid_of}
 use Rattle.standby_core.specs.Scans.{moved_on, scan_with, without}
-use Rattle.legal_session.specs.AbstractStandby.{AbstractScan, World, given_block, scan_in, without_scan}
+use Rattle.legal_session.specs.AbstractStandby.{AbstractScan, World, given_block, log_origin, met, oid_with, scan_in, without_scan}
 use Rattle.legal_session.specs.Represents.{StandForScans, StandsForScan}
 
 pub same_count :
@@ -17,10 +25,23 @@ same_count w life [] (scan ∷ scans) all = absurd all
 same_count w life (one ∷ ones) [] all = absurd all
 same_count w life (one ∷ ones) (scan ∷ scans) (first, rest) = let same = same_count w life ones scans rest in omega (arith, same)
 
+-- a record conflicts with a scan of a described table exactly where it has a cause
+no_conflict :
+    (w : World) (rec : Rec) (table xmin : ℕ) → table_of (locators w.tables) (file_of w.tables table) ≡ Some table
+    → cause_of rec w.tables.database (oid_of w.tables table) xmin ≡ None
+    → conflicts (log_origin w) (file_of w.tables table) xmin rec ≡ false
+no_conflict w rec table xmin described none =
+    ap (λ (found : Option ℕ). is_some (cause_of rec w.tables.database (oid_with w.tables found) xmin)) described ∙ ap is_some none
+
+no_cause : (was found : Option Cause) → first_cause was found ≡ None → (was ≡ None) × (found ≡ None)
+no_cause None found e = (refl, e)
+no_cause (Some cause) found e = cc
+
 -- one more record
 later_one :
     (w : World) (rec : Rec) (life : List Rec) (one : NodeScan) (scan : AbstractScan) → StandsForScan w life one scan
-    → StandsForScan w (rec ∷ life) one scan
+    → StandsForScan w (rec ∷ life) (cancelled_one rec w.tables one) (met w rec scan)
+unfolding cancelled_one met
 later_one w rec life one scan is = record {
   id = is.id;
   table = is.table;
@@ -29,14 +50,26 @@ later_one w rec life one scan is = record {
   opened = ap (λ (log : List Rec). rec ∷ log) is.opened;
   ready = is.ready;
   snapshot = is.snapshot;
+  xmin = is.xmin;
+  least = is.least;
+  there = is.there;
+  unlocked = is.unlocked;
   blocks = is.blocks;
+  cause =
+      ap (λ (cause : Option Cause). first_cause cause (cause_of rec w.tables.database (oid_of w.tables one.scan.table) one.scan.snapshot.xmin)) is.cause
+      ∙ ap (λ (table : ℕ). first_cause scan.cause (cause_of rec w.tables.database (oid_of w.tables table) one.scan.snapshot.xmin)) is.table
+      ∙ ap (λ (xmin : ℕ). first_cause scan.cause (cause_of rec w.tables.database (oid_of w.tables scan.table) xmin)) is.xmin;
+  free = λ none.
+      let (before, here) = no_cause scan.cause (cause_of rec w.tables.database (oid_of w.tables scan.table) scan.xmin) none in
+      All-cons (λ (r : Rec). conflicts (log_origin w) (file_of w.tables scan.table) scan.xmin r ≡ false) rec is.later
+      (no_conflict w rec scan.table scan.xmin is.described here) (is.free before);
   given = is.given;
   inside = is.inside;
 }
 
 pub later_scans :
     (w : World) (rec : Rec) (life : List Rec) (ones : List NodeScan) (scans : List AbstractScan) → StandForScans w life ones scans
-    → StandForScans w (rec ∷ life) ones scans
+    → StandForScans w (rec ∷ life) (cancelled_by rec w.tables ones) (map (met w rec) scans)
 later_scans w rec life [] [] all = tt
 later_scans w rec life [] (scan ∷ scans) all = absurd all
 later_scans w rec life (one ∷ ones) [] all = absurd all
@@ -53,21 +86,21 @@ one_opened w life (other ∷ ones) [] one scan is all = absurd all
 one_opened w life (other ∷ ones) (that ∷ scans) one scan is (first, rest) = (first, one_opened w life ones scans one scan is rest)
 
 -- one that is found under an id
-abbrev pub AreFound : World → List Rec → Option OpenScan → Option AbstractScan → Type 0
+abbrev pub AreFound : World → List Rec → Option NodeScan → Option AbstractScan → Type 0
 AreFound w life None None = Unit {0}
 AreFound w life None (Some scan) = ⊥
-AreFound w life (Some held) None = ⊥
-AreFound w life (Some held) (Some scan) = (one : NodeScan) × (one.scan ≡ held) × StandsForScan w life one scan
+AreFound w life (Some one) None = ⊥
+AreFound w life (Some one) (Some scan) = StandsForScan w life one scan
 
 module _ (w : World) (life : List Rec) (id : ℕ) where
   same_test : (one : NodeScan) (scan : AbstractScan) → StandsForScan w life one scan → (one.id == id) ≡ (scan.id == id)
   same_test one scan is = ap (λ (n : ℕ). n == id) is.id
 
   found_first :
-      (a b : Bool) (one : NodeScan) (scan : AbstractScan) (rest : Option OpenScan) (others : Option AbstractScan) → a ≡ b
+      (a b : Bool) (one : NodeScan) (scan : AbstractScan) (rest : Option NodeScan) (others : Option AbstractScan) → a ≡ b
       → StandsForScan w life one scan → AreFound w life rest others
-      → AreFound w life (if a then Some one.scan else rest) (if b then Some scan else others)
-  found_first true true one scan rest others e is later = (one, refl, is)
+      → AreFound w life (if a then Some one else rest) (if b then Some scan else others)
+  found_first true true one scan rest others e is later = is
   found_first false false one scan rest others e is later = later
   found_first true false one scan rest others e is later = cc
   found_first false true one scan rest others e is later = cc
@@ -82,11 +115,11 @@ module _ (w : World) (life : List Rec) (id : ℕ) where
       found_first (one.id == id) (scan.id == id) one scan (scan_with id ones) (scan_in id scans) (same_test one scan first) first
       (are_found ones scans rest)
 
-  pub both_found : (held : Option OpenScan) (scan : Option AbstractScan) → AreFound w life held scan → is_some held ≡ is_some scan
+  pub both_found : (one : Option NodeScan) (scan : Option AbstractScan) → AreFound w life one scan → is_some one ≡ is_some scan
   both_found None None are = refl
   both_found None (Some scan) are = absurd are
-  both_found (Some held) None are = absurd are
-  both_found (Some held) (Some scan) are = refl
+  both_found (Some one) None are = absurd are
+  both_found (Some one) (Some scan) are = refl
 
   without_first :
       (a b : Bool) (one : NodeScan) (scan : AbstractScan) (ones others : List NodeScan) (scans those : List AbstractScan) → a ≡ b
@@ -132,27 +165,33 @@ module _ (w : World) (life : List Rec) (id : ℕ) where
         opened = is.opened;
         ready = is.ready;
         snapshot = is.snapshot;
+        xmin = is.xmin;
+        least = is.least;
+        there = is.there;
+        unlocked = is.unlocked;
         blocks = is.blocks;
+        cause = is.cause;
+        free = is.free;
         given = ap (λ (n : ℕ). n + 1) is.given;
         inside = inr (subst (λ (n : ℕ). n + 1 < one.scan.blocks) given less);
       })
 
   moved_first :
       (a b : Bool) (one : NodeScan) (scan : AbstractScan) (ones others : List NodeScan) (scans those : List AbstractScan)
-      (rest : Option OpenScan) → a ≡ b
-      → ((held : OpenScan) → (if a then Some one.scan else rest) ≡ Some held → has_more held ≡ true)
+      (rest : Option NodeScan) → a ≡ b
+      → ((found : NodeScan) → (if a then Some one else rest) ≡ Some found → has_more found.scan ≡ true)
       → StandsForScan w life one scan → StandForScans w life ones scans
-      → (((held : OpenScan) → rest ≡ Some held → has_more held ≡ true) → StandForScans w life others those)
+      → (((found : NodeScan) → rest ≡ Some found → has_more found.scan ≡ true) → StandForScans w life others those)
       → StandForScans w life (if a then record one { scan = after_page one.scan } ∷ ones else one ∷ others)
       (if b then record scan { given = scan.given + 1 } ∷ scans else scan ∷ those)
-  moved_first true true one scan ones others scans those rest e more is all later = (one_on one scan (more one.scan refl) is, all)
+  moved_first true true one scan ones others scans those rest e more is all later = (one_on one scan (more one refl) is, all)
   moved_first false false one scan ones others scans those rest e more is all later = (is, later more)
   moved_first true false one scan ones others scans those rest e more is all later = cc
   moved_first false true one scan ones others scans those rest e more is all later = cc
 
   pub are_moved :
       (ones : List NodeScan) (scans : List AbstractScan)
-      → ((held : OpenScan) → scan_with id ones ≡ Some held → has_more held ≡ true) → StandForScans w life ones scans
+      → ((found : NodeScan) → scan_with id ones ≡ Some found → has_more found.scan ≡ true) → StandForScans w life ones scans
       → StandForScans w life (moved_on id ones) (given_block id scans)
   are_moved [] [] more all = tt
   are_moved [] (scan ∷ scans) more all = absurd all

@@ -1,5 +1,5 @@
 -- The pages of a scan put together are the values of its rows.
-use Rattle.std.proofs.Common.{◌≡◌, ℕ, ◌+◌, ◌≤◌, Bool, true, false, ◌&&◌, List, [], ◌∷◌, ◌++◌, Result, Ok, Err, arith, refl, sym, ap, ◌∙◌, if◌then◌else◌}
+use Rattle.std.proofs.Common.{◌≡◌, ℕ, ◌+◌, ◌≤◌, Bool, true, false, ◌&&◌, List, [], ◌∷◌, ◌++◌, Option, Result, Ok, Err, arith, refl, sym, ap, ◌∙◌, if◌then◌else◌}
 use Rattle.std.specs.List.{filter}
 use Rattle.std.proofs.lemmas.Bool.{ltb-false}
 use Rattle.std.proofs.lemmas.List.{append-nil}
@@ -9,6 +9,7 @@ use Rattle.heap_tuple.specs.declared.cell.Cell.{Cell}
 use Rattle.heap_tuple.specs.declared.cell.Column.{Column}
 use Rattle.wal_bodies.specs.declared.types.Rec.{Rec}
 use Rattle.page_store.specs.Seen.{Seen}
+use Rattle.recovery_conflict.specs.declared.locks.Cause.{Cause}
 use Rattle.seq_scan.specs.BlockRows.{BlockEnd, BlockRows, Whole, ToastedAt, BadAt, UnknownAt, NoPage, ends, with_row, with_values}
 use Rattle.row_model.specs.Versions.{Version}
 use Rattle.row_model.specs.RowSteps.{block_count, versions}
@@ -80,7 +81,8 @@ module _
     (one_rows : OneRows) (w : World) (table : ℕ) (opened : List Rec) (blocks : ℕ → Seen)
     (shows : ShowsTable (log_origin w) opened (versions (log_origin w) (file_of w.tables table) opened)
     (block_count (log_origin w) (file_of w.tables table) opened) blocks) (rows : List Version)
-    (are : IsRows (multixacts opened) (committed_in (log_origin w) opened) (versions (log_origin w) (file_of w.tables table) opened) rows) where
+    (are : IsRows (multixacts opened) (committed_in (log_origin w) opened) (versions (log_origin w) (file_of w.tables table) opened) rows)
+    (id xmin : ℕ) (cause : Option Cause) where
   abbrev columns : List Column
   columns = columns_of w.tables table
 
@@ -90,8 +92,8 @@ module _
   abbrev count : ℕ
   count = block_count (log_origin w) file opened
 
-  abbrev at_block : ℕ → ℕ → AbstractScan
-  at_block id block = record { id = id; table = table; opened = opened; given = block }
+  abbrev at_block : ℕ → AbstractScan
+  at_block block = record { id = id; table = table; opened = opened; xmin = xmin; given = block; cause = cause }
 
   none_behind : (block : ℕ) → count ≤ block → filter (is_from block) rows ≡ []
   none_behind block past =
@@ -102,9 +104,9 @@ module _
       (none_past test count block past vs (λ b further. none_there o opened vs count b (blocks b) further (shows.shows b)) shows.lost)
 
   page_is :
-      (id block : ℕ) (page : BlockRows) (more : Bool) → GivesRows w (at_block id block) page more
+      (block : ℕ) (page : BlockRows) (more : Bool) → GivesRows w (at_block block) page more
       → page ≡ rows_of_versions columns (filter (is_in_block block) rows)
-  page_is id block page more gives =
+  page_is block page more gives =
       gives.gives
       ∙ ap (λ (us : List Version). rows_of_versions columns (filter (is_in_block block) us))
       (one_rows (multixacts opened) (committed_in (log_origin w) opened) (versions (log_origin w) file opened) gives.rows rows gives.are_rows are)
@@ -119,29 +121,29 @@ module _
       ∙ sym (ap (rows_of_versions columns) (split_rows block rows are.in_order))
 
   pages_from :
-      (id block : ℕ) (page : BlockRows) (pages : List BlockRows) (more whole : Bool) → GivesRows w (at_block id block) page more
-      → is_whole page.end ≡ whole → FollowIf (more && whole) (GivesPages w (at_block id (block + 1)) pages) pages
-      → (GivesPages w (at_block id (block + 1)) pages → joined pages ≡ rows_of_versions columns (filter (is_from (block + 1)) rows))
+      (block : ℕ) (page : BlockRows) (pages : List BlockRows) (more whole : Bool) → GivesRows w (at_block block) page more
+      → is_whole page.end ≡ whole → FollowIf (more && whole) (GivesPages w (at_block (block + 1)) pages) pages
+      → (GivesPages w (at_block (block + 1)) pages → joined pages ≡ rows_of_versions columns (filter (is_from (block + 1)) rows))
       → joined (page ∷ pages) ≡ rows_of_versions columns (filter (is_from block) rows)
-  pages_from id block page pages true true gives e follow later =
-      ap (joined_with page) (later follow) ∙ rows_from block page (page_is id block page true gives)
-  pages_from id block page pages true false gives e none later =
+  pages_from block page pages true true gives e follow later =
+      ap (joined_with page) (later follow) ∙ rows_from block page (page_is block page true gives)
+  pages_from block page pages true false gives e none later =
       cut_page page (joined pages) e
       ∙ sym (cut_page page (rows_of_versions columns (filter (is_from (block + 1)) rows)) e)
-      ∙ rows_from block page (page_is id block page true gives)
-  pages_from id block page pages false whole gives e none later =
+      ∙ rows_from block page (page_is block page true gives)
+  pages_from block page pages false whole gives e none later =
       let past = ltb-false (block + 1) count (sym gives.further) in
       ap (λ (others : List BlockRows). joined_with page (joined others)) none
       ∙ ap (joined_with page)
       (sym (ap (rows_of_versions columns) (none_behind (block + 1) (omega (arith, past))) ∙ no_more columns))
-      ∙ rows_from block page (page_is id block page false gives)
+      ∙ rows_from block page (page_is block page false gives)
 
   pub whole_from :
-      (id block : ℕ) (pages : List BlockRows) → GivesPages w (at_block id block) pages
+      (block : ℕ) (pages : List BlockRows) → GivesPages w (at_block block) pages
       → joined pages ≡ rows_of_versions columns (filter (is_from block) rows)
-  whole_from id block [] gives = absurd gives
-  whole_from id block (page ∷ pages) (more, gives, follow) =
-      pages_from id block page pages more (is_whole page.end) gives refl follow (λ later. whole_from id (block + 1) pages later)
+  whole_from block [] gives = absurd gives
+  whole_from block (page ∷ pages) (more, gives, follow) =
+      pages_from block page pages more (is_whole page.end) gives refl follow (λ later. whole_from (block + 1) pages later)
 
 -- the rows of the first page are all
 first_rows :
@@ -153,15 +155,15 @@ first_rows w scan [] gives = absurd gives
 first_rows w scan (page ∷ pages) (more, gives, follow) = (gives.rows, gives.are_rows)
 
 pub pages_are_rows_hold : LogRises → ToldNumbersFit → BlocksShowVersions → OneRows → PagesAreRows
-pages_are_rows_hold all_rise fits shown one_rows w start sized tells legal scan pages stands described first gives =
+pages_are_rows_hold all_rise fits shown one_rows w start sized tells legal scan pages stands described there first gives =
     let laws : LogLaws = record { all_rise = all_rise; fits = fits; shown = shown } in
     let good : IsGood w start = record { sized = sized; tells = tells; legal = legal } in
     let rules = legal_log laws w start good scan.opened stands in
-    let shows = table_shown laws w start good scan.opened stands rules.view scan.table rules.redone described in
+    let shows = table_shown laws w start good scan.opened stands rules.view scan.table rules.redone described there in
     let (rows, are) = first_rows w scan pages gives in (
       rows,
       are,
-      whole_from one_rows w scan.table scan.opened (rules.view scan.table) shows rows are scan.id scan.given pages gives
+      whole_from one_rows w scan.table scan.opened (rules.view scan.table) shows rows are scan.id scan.xmin scan.cause scan.given pages gives
           ∙ ap (λ (given : ℕ). rows_of_versions (columns_of w.tables scan.table) (filter (is_from given) rows)) first
           ∙ ap (rows_of_versions (columns_of w.tables scan.table)) (all_from rows),
     )

@@ -2,30 +2,36 @@
 -- the log and the definitions of rows, blocks and running transactions alone.
 -- Sources: xlogrecovery.c (PerformWalRecovery, CheckRecoveryConsistency), procarray.c (GetSnapshotData), heapam.c
 -- (heap_getnextslot).
-use Rattle.std.specs.Prelude.{◌≡◌, ℕ, ◌+◌, ◌^◌, ◌==◌, Bool, false, not, ◌&&◌, ◌||◌, nat_lt, nat_le, List, [], ◌∷◌, ◌++◌, length, filter, Option, None, Some, is_some, Result, Ok, Err, if◌then◌else◌}
+use Rattle.std.specs.Prelude.{◌≡◌, ℕ, ◌+◌, ◌^◌, ◌==◌, Bool, true, false, not, ◌&&◌, ◌||◌, nat_lt, nat_le, List, [], ◌∷◌, ◌++◌, length, map, filter, Option, None, Some, is_some, Result, Ok, Err, if◌then◌else◌}
 use Rattle.pg_types.specs.declared.names.Lsn.{Lsn}
+use Rattle.pg_types.specs.declared.names.Locator.{Locator}
 use Rattle.wal_reader.specs.Told.{Told}
 use Rattle.wal_bodies.specs.declared.types.Rec.{Rec}
 use Rattle.wal_bodies.specs.Ends.{end_of}
 use Rattle.known_assigned.specs.declared.state.State.{State}
 use Rattle.table_schema.specs.Description.{Description, locators}
+use Rattle.heap_redo.specs.Redone.{table_of}
 use Rattle.table_schema.specs.Tables.{columns_of, file_of, number_named, table_with}
 use Rattle.seq_scan.specs.BlockRows.{BlockRows}
-use Rattle.transaction_model.specs.Transactions.{state_of}
+use Rattle.transaction_model.specs.Transactions.{IsXmin, state_of}
 use Rattle.xact_redo.specs.TransactionsOf.{transactions_of}
 use Rattle.row_model.specs.Versions.{Version}
 use Rattle.row_model.specs.RowSteps.{block_count, versions}
 use Rattle.row_model.specs.Rows.{IsRows}
+use Rattle.row_model.specs.Locks.{HeldLock, drops, locks}
 use Rattle.row_model.specs.Origins.{LogOrigin, committed_in, empty_table}
 use Rattle.row_model.specs.Multixacts.{multixacts}
 use Rattle.row_model.specs.LegalRows.{LegalLog}
 use Rattle.row_pages.specs.Pages.{is_in_block, rows_of_versions}
+use Rattle.recovery_conflict.specs.declared.locks.Cause.{Cause}
+use Rattle.recovery_conflict.specs.Causes.{cause_of}
 use Rattle.standby_model.specs.Log as log
 use Rattle.standby_model.specs.Log.{Stands, Stop, next_of}
+use Rattle.standby_core.specs.Conflicts.{first_cause, oid_of}
 use Rattle.standby_core.specs.Standby.{described_in}
 use Rattle.standby_core.specs.Replay.{awaited_after, refusal_of}
 use Rattle.standby_core.specs.Scans.{is_ready, is_whole, most_scans}
-use Rattle.session_model.specs.Events.{Event, AsksStatus, ReplayOne, Open, Next, Close, Reply, Status, Stands as StandsSo, Applied, AtEnd, Refused, Opened, NoTable, TooMany, NotAdmitted, Page, Closed, NoScan}
+use Rattle.session_model.specs.Events.{Event, AsksStatus, ReplayOne, Open, Next, Close, Reply, Status, Stands as StandsSo, Applied, AtEnd, Refused, Opened, NoTable, TooMany, NotAdmitted, Page, Closed, NoScan, Gone, Locked, Cancelled}
 
 -- what a standby lives in: the tables that are described to it, the log that is told, and what leads from a
 -- subtransaction to its top transaction
@@ -34,20 +40,30 @@ pub record World : Type 0 where
   pub told : Told
   pub top : ℕ → ℕ
 
+-- the oid of the described table that has this file; 0 where there is none
+abbrev pub oid_with : Description → Option ℕ → ℕ
+oid_with tables None = 0
+oid_with tables (Some number) = oid_of tables number
+
+abbrev pub oid_at : Description → Locator → ℕ
+oid_at tables file = oid_with tables (table_of (locators tables) file)
+
 -- where its log begins the tables are empty and no transaction has a status
 abbrev pub log_origin : World → LogOrigin
 log_origin w = record {
   transactions = record { at = record { is_committed = λ x. false; is_aborted = λ x. false }; top = w.top };
-  tables = λ table. empty_table;
+  tables = λ file. empty_table (oid_at w.tables file);
 }
 
--- an open scan: its id, its table by the number, the log up to its opening with the newest record first, and how many
--- blocks it was given
+-- an open scan: its id, its table by the number, the log up to its opening with the newest record first, the least id that
+-- was live then, how many blocks it was given, and what cancelled it
 pub record AbstractScan : Type 0 where
   pub id : ℕ
   pub table : ℕ
   pub opened : List Rec
+  pub xmin : ℕ
   pub given : ℕ
+  pub cause : Option Cause
 
 -- a standby: the position where its life began, the records that it replayed since, the newest first, the position from
 -- which on its blocks are consistent, where the backup began whose end is awaited, its open scans in the order of their
@@ -94,26 +110,61 @@ admits s = nat_le s.min (position_of s) && not (is_some s.awaited) && is_ready (
 abbrev pub is_crowded : AbstractStandby → Bool
 is_crowded s = nat_le most_scans (length s.scans) || nat_lt (2 ^ 63) s.next_id
 
--- the next record is replayed, or why it is not
-abbrev pub replayed : AbstractStandby → Result Rec Stop → Reply × AbstractStandby
-replayed s (Ok rec) =
-    (Applied rec.end.0, record s { life = rec ∷ s.life; awaited = awaited_after rec.kind s.awaited })
-replayed s (Err (log.Ended why)) = (AtEnd (position_of s) why, s)
-replayed s (Err (log.Refused what)) = (Refused (position_of s) (refusal_of what), s)
+-- an open scan after a record: it is cancelled by the first that conflicts with it
+unfoldable pub met : World → Rec → AbstractScan → AbstractScan
+met w rec scan = record scan {
+  cause = first_cause scan.cause (cause_of rec w.tables.database (oid_of w.tables scan.table) scan.xmin);
+}
 
--- a scan is opened over the rows that are committed now
-abbrev pub with_scan : ℕ → AbstractStandby → AbstractStandby
-with_scan table s = record s {
-  scans = s.scans ++ record { id = s.next_id; table = table; opened = s.life; given = 0 } ∷ [];
+-- the standby after a record
+abbrev pub after_record : World → Rec → AbstractStandby → AbstractStandby
+after_record w rec s = record s {
+  life = rec ∷ s.life;
+  awaited = awaited_after rec.kind s.awaited;
+  scans = map (met w rec) s.scans;
+}
+
+-- the next record is replayed, or why it is not
+abbrev pub replayed : World → AbstractStandby → Result Rec Stop → Reply × AbstractStandby
+replayed w s (Ok rec) = (Applied rec.end.0, after_record w rec s)
+replayed w s (Err (log.Ended why)) = (AtEnd (position_of s) why, s)
+replayed w s (Err (log.Refused what)) = (Refused (position_of s) (refusal_of what), s)
+
+-- a scan is opened over the rows that are committed now, where this is the least live id
+abbrev pub with_scan : ℕ → ℕ → AbstractStandby → AbstractStandby
+with_scan table xmin s = record s {
+  scans = s.scans ++ record { id = s.next_id; table = table; opened = s.life; xmin = xmin; given = 0; cause = None } ∷ [];
   next_id = s.next_id + 1;
 }
 
-abbrev pub opened : AbstractStandby → Option ℕ → Reply × AbstractStandby
-opened s None = (NoTable, s)
-opened s (Some table) =
+-- the start of the first record of a log that drops the table
+abbrev pub first_drop : Bool → ℕ → Option ℕ → Option ℕ
+first_drop dropped start (Some at) = Some at
+first_drop dropped start None = if dropped then Some start else None
+
+unfoldable pub gone_at : Locator → List Rec → Option ℕ
+gone_at file [] = None
+gone_at file (rec ∷ older) = first_drop (drops file rec) rec.start.0 (gone_at file older)
+
+-- the last of the locks in force
+abbrev pub last_lock : List HeldLock → Option HeldLock
+last_lock [] = None
+last_lock (held ∷ others) = Some held
+
+-- where scans are admitted one is opened, unless the table's file was dropped, or a lock of the table is in force
+abbrev pub opened_unless : Option ℕ → Option HeldLock → ℕ → ℕ → AbstractStandby → Reply × AbstractStandby
+opened_unless (Some at) held table xmin s = (Gone at, s)
+opened_unless None (Some held) table xmin s = (Locked held.since held.xid, s)
+opened_unless None None table xmin s = (Opened s.next_id (position_of s), with_scan table xmin s)
+
+abbrev pub opened : World → ℕ → AbstractStandby → Option ℕ → Reply × AbstractStandby
+opened w xmin s None = (NoTable, s)
+opened w xmin s (Some table) =
     if is_crowded s then (TooMany, s)
     else if not (admits s) then (NotAdmitted (status_in s), s)
-    else (Opened s.next_id (position_of s), with_scan table s)
+    else
+    opened_unless (gone_at (file_of w.tables table) s.life)
+    (last_lock (locks (log_origin w) (file_of w.tables table) s.life)) table xmin s
 
 -- the open scan with this id; the scans without it; and the scans once it was given a block
 abbrev pub scan_in : ℕ → List AbstractScan → Option AbstractScan
@@ -143,19 +194,33 @@ pub record GivesRows (w : World) (scan : AbstractScan) (page : BlockRows) (more 
 abbrev pub after_block : ℕ → Bool → AbstractStandby → AbstractStandby
 after_block id goes_on s = record s { scans = if goes_on then given_block id s.scans else without_scan id s.scans }
 
-abbrev pub ReadsScan : World → ℕ → Option AbstractScan → AbstractStandby → Reply → AbstractStandby → Type 0
-ReadsScan w id None s reply now = (reply ≡ NoScan) × (now ≡ s)
-ReadsScan w id (Some scan) s reply now =
+-- the standby without the scan with this id
+abbrev pub after_close : ℕ → AbstractStandby → AbstractStandby
+after_close id s = record s { scans = without_scan id s.scans }
+
+-- what is given of an open scan: what cancelled it, and it is taken away; or the rows of its next block
+abbrev pub ReadsUnlessCancelled : World → ℕ → AbstractScan → Option Cause → AbstractStandby → Reply → AbstractStandby → Type 0
+ReadsUnlessCancelled w id scan (Some cause) s reply now = (reply ≡ Cancelled id cause) × (now ≡ after_close id s)
+ReadsUnlessCancelled w id scan None s reply now =
     (page : BlockRows) × (more : Bool) × GivesRows w scan page more
     × (reply ≡ Page id (table_with w.tables scan.table) scan.given more page)
     × (now ≡ after_block id (more && is_whole page.end) s)
 
+abbrev pub ReadsScan : World → ℕ → Option AbstractScan → AbstractStandby → Reply → AbstractStandby → Type 0
+ReadsScan w id None s reply now = (reply ≡ NoScan) × (now ≡ s)
+ReadsScan w id (Some scan) s reply now = ReadsUnlessCancelled w id scan scan.cause s reply now
+
+-- the least id that is live where the standby stands, at which its snapshots begin
+abbrev pub IsLeastLive : World → AbstractStandby → ℕ → Type 0
+IsLeastLive w s xmin = IsXmin (log_origin w).transactions.at xmin (transactions_of s.life)
+
 -- what an event does to a standby, and what it replies
 abbrev pub Step : World → Event → AbstractStandby → Reply → AbstractStandby → Type 0
 Step w AsksStatus s reply now = (reply ≡ StandsSo (status_in s)) × (now ≡ s)
-Step w ReplayOne s reply now = (reply, now) ≡ replayed s (next_of w.told (described_in w.tables) s.start s.life)
-Step w (Open name) s reply now = (reply, now) ≡ opened s (number_named w.tables name)
+Step w ReplayOne s reply now = (reply, now) ≡ replayed w s (next_of w.told (described_in w.tables) s.start s.life)
+Step w (Open name) s reply now =
+    (xmin : ℕ) × (admits s ≡ true → IsLeastLive w s xmin) × ((reply, now) ≡ opened w xmin s (number_named w.tables name))
 Step w (Next id) s reply now = ReadsScan w id (scan_in id s.scans) s reply now
 Step w (Close id) s reply now =
     (reply ≡ (if is_some (scan_in id s.scans) then Closed id else NoScan))
-    × (now ≡ record s { scans = without_scan id s.scans })
+    × (now ≡ after_close id s)

@@ -1,5 +1,6 @@
 -- When a node stands for the abstract standby, and the law that its steps are then the abstract ones.
-use Rattle.std.specs.Prelude.{◌≡◌, ◌⊎◌, ℕ, ◌<◌, List, [], ◌∷◌, ◌++◌, Option, Some, Ok}
+use Rattle.std.specs.Prelude.{◌≡◌, ◌⊎◌, ℕ, ◌<◌, false, List, [], ◌∷◌, ◌++◌, length, replicate, Option, None, Some, Ok}
+use Rattle.pg_types.specs.declared.names.Lsn.{Lsn}
 use Rattle.wal_bodies.specs.declared.types.Rec.{Rec}
 use Rattle.heap_redo.specs.Redone.{table_of}
 use Rattle.known_assigned.specs.declared.state.State.TheVariants.{Ready}
@@ -9,9 +10,16 @@ use Rattle.table_schema.specs.Description.{Description, locators}
 use Rattle.table_schema.specs.Reading as schema
 use Rattle.table_schema.specs.Tables.{file_of}
 use Rattle.page_store.specs.Seen.{absent}
+use Rattle.transaction_model.specs.Transactions.{IsXmin}
+use Rattle.xact_redo.specs.TransactionsOf.{transactions_of}
+use Rattle.recovery_conflict.specs.declared.locks.HeldLock.{HeldLock}
+use Rattle.recovery_conflict.specs.Held.{locks_after}
+use Rattle.row_model.specs.Conflicts.{AreFree}
+use Rattle.row_model.specs.Locks.{is_gone, locks}
 use Rattle.row_model.specs.RowSteps.{block_count, view_after}
 use Rattle.row_visibility.specs.Sees.{state_along}
 use Rattle.standby_model.specs.Log.{Stands, link_after}
+use Rattle.standby_core.specs.Conflicts.{gone_after}
 use Rattle.standby_core.specs.declared.scans.NodeScan.{NodeScan}
 use Rattle.standby_core.specs.declared.types.Origin.{Origin}
 use Rattle.standby_core.specs.Standby.{Standby, at_origin, described_in, told_to}
@@ -19,8 +27,18 @@ use Rattle.session_model.specs.Laws.{Simulates}
 use Rattle.session_model.specs.NodeSteps.{NodeStep}
 use Rattle.legal_session.specs.AbstractStandby.{AbstractScan, AbstractStandby, IsLegal, Step, World, life_begins, log_origin, position_of}
 
--- an open scan of the node: its snapshot was taken and its blocks were counted at the opening, when the running
--- transactions were known; each block that it was given had another one behind it
+-- the locks in force after a log, and since when each described table is gone
+unfoldable pub locks_along : List Rec → List HeldLock
+locks_along [] = []
+locks_along (rec ∷ older) = locks_after rec (locks_along older)
+
+unfoldable pub gone_along : Description → List Rec → List (Option Lsn)
+gone_along tables [] = replicate (length tables.tables) None
+gone_along tables (rec ∷ older) = gone_after rec (locators tables) (gone_along tables older)
+
+-- an open scan of the node: its table was neither dropped nor locked at the opening; its snapshot was taken then, when the
+-- running transactions were known, and its blocks were counted; each block that it was given had another one behind it; and
+-- as long as it is not cancelled, no record conflicted with it
 pub record StandsForScan (w : World) (life : List Rec) (one : NodeScan) (scan : AbstractScan) : Type 0 where
   pub id : one.id ≡ scan.id
   pub table : one.scan.table ≡ scan.table
@@ -29,7 +47,13 @@ pub record StandsForScan (w : World) (life : List Rec) (one : NodeScan) (scan : 
   pub opened : life ≡ later ++ scan.opened
   pub ready : (state_along scan.opened).known.mode ≡ Ready
   pub snapshot : one.scan.snapshot ≡ take_of (state_along scan.opened).known
+  pub xmin : one.scan.snapshot.xmin ≡ scan.xmin
+  pub least : IsXmin (log_origin w).transactions.at scan.xmin (transactions_of scan.opened)
+  pub there : is_gone (file_of w.tables scan.table) scan.opened ≡ false
+  pub unlocked : locks (log_origin w) (file_of w.tables scan.table) scan.opened ≡ []
   pub blocks : one.scan.blocks ≡ block_count (log_origin w) (file_of w.tables scan.table) scan.opened
+  pub cause : one.cause ≡ scan.cause
+  pub free : scan.cause ≡ None → AreFree (log_origin w) (file_of w.tables scan.table) scan.xmin later
   pub given : one.scan.given ≡ scan.given
   pub inside : (scan.given ≡ 0) ⊎ (scan.given < one.scan.blocks)
 
@@ -55,6 +79,8 @@ pub record Represents (w : World) (start : ℕ) (node : Standby) (s : AbstractSt
   pub transactions : node.transactions ≡ state_along s.life
   pub scans : StandForScans w s.life node.scans s.scans
   pub next_id : node.next_id ≡ s.next_id
+  pub held : node.locks ≡ locks_along s.life
+  pub gone : node.gone ≡ gone_along w.tables s.life
 
 -- over a legal log of bytes, in segments that have a size, with tables of a description that is read, each step of a node is
 -- one of the abstract standby that it stands for, with the same reply

@@ -6,6 +6,7 @@ use Rattle.table_schema.specs.Description.{locators}
 use Rattle.table_schema.specs.Tables.{columns_of, file_of}
 use Rattle.seq_scan.specs.BlockRows.{BlockRows, Whole, ends}
 use Rattle.row_model.specs.Versions.{Version}
+use Rattle.row_model.specs.Locks.{is_gone}
 use Rattle.row_model.specs.RowSteps.{versions}
 use Rattle.row_model.specs.Rows.{IsRows}
 use Rattle.row_model.specs.Origins.{committed_in}
@@ -38,12 +39,13 @@ joined [] = ends Whole
 joined (page ∷ pages) = joined_with page (joined pages)
 
 -- over a legal log the pages of a scan from its first block on, put together, are the values of the rows that were committed
--- at the opening, in order of place, up to the first that is refused
+-- at the opening, in order of place, up to the first that is refused; the table was not dropped then
 abbrev pub PagesAreRows : Type 0
 PagesAreRows =
     (w : World) (start : ℕ) → 0 < w.told.segsize → TellsBytes w.told → IsLegal w start
     → (scan : AbstractScan) (pages : List BlockRows) → Stands w.told (described_in w.tables) start scan.opened
-    → table_of (locators w.tables) (file_of w.tables scan.table) ≡ Some scan.table → scan.given ≡ 0 → GivesPages w scan pages
+    → table_of (locators w.tables) (file_of w.tables scan.table) ≡ Some scan.table
+    → is_gone (file_of w.tables scan.table) scan.opened ≡ false → scan.given ≡ 0 → GivesPages w scan pages
     → (rows : List Version)
     × IsRows (multixacts scan.opened) (committed_in (log_origin w) scan.opened)
     (versions (log_origin w) (file_of w.tables scan.table) scan.opened) rows

@@ -1,10 +1,10 @@
 -- What the blocks of a pool are after one of its tables changed.
-use Rattle.std.proofs.Common.{◌-◌, Bool, true, false, cond, arith, ◌≡◌, ◌≢◌, inl, inr, ℕ, zero, suc, ◌+◌, ◌<◌, ◌≤◌, List, [], ◌∷◌, ◌++◌, ◌&&◌, length, take, replicate, ltb, eqb, nat_lt, min, get_or, subst, vec_len, IsSome, is_some, IfSome, OnErr, Result, Ok, Err, Option, Some, None, slice_get, slice_set, refl, sym, ap, ◌∙◌}
+use Rattle.std.proofs.Common.{◌-◌, Bool, true, false, cond, arith, ◌≡◌, ◌≢◌, inl, inr, ℕ, zero, suc, ◌+◌, ◌<◌, ◌≤◌, List, [], ◌∷◌, ◌++◌, ◌&&◌, length, take, replicate, ltb, eqb, nat_lt, nat_le, min, get_or, subst, vec_len, IsSome, is_some, IfSome, OnErr, Result, Ok, Err, Option, Some, None, slice_get, slice_set, refl, sym, ap, ◌∙◌}
 use Rattle.std.proofs.Math.Path.{fun_ext}
 use Rattle.std.specs.List.{All}
 use Rattle.std.proofs.lemmas.Bool.{cases_eq, cases_lt, false≢true}
 use Rattle.std.proofs.lemmas.Bool.Decides.{nat_tests}
-use Rattle.std.proofs.lemmas.List.{take_all, length-append, length-replicate, set-append_right}
+use Rattle.std.proofs.lemmas.List.{take_all, length-append, length-replicate, length-take, set-append_right}
 use Rattle.std.proofs.Math.ListN.{length-set}
 use Rattle.std.proofs.lemmas.Option.{slice_get_past, slice_get_read, slice_get-get_or}
 use Rattle.pg_types.specs.declared.names.Tag.{Tag}
@@ -14,7 +14,7 @@ use Rattle.heap_page.specs.Page.{IsPage}
 use Rattle.page_store.specs.declared.pool.PoolFault.{PoolFault}
 use Rattle.page_store.specs.declared.pool.PoolFault.TheVariants.{BadPage}
 use Rattle.page_store.specs.Lending.{Holds}
-use Rattle.page_store.specs.Content.{page_answer, table_count, Blocks, zeros, extended, content, block_in, is_at, with_block, or_zeros, filled_below}
+use Rattle.page_store.specs.Content.{page_answer, table_count, Blocks, zeros, extended, content, block_in, is_at, with_block, or_zeros, filled_below, truncated}
 
 pub slice_get-set_same : {X : Type 0} → (xs : List X) (i : ℕ) (x : X) → i < length xs → slice_get (slice_set xs i x) i ≡ Some x
 slice_get-set_same [] i x h = absurd (omega arith)
@@ -347,3 +347,63 @@ pushed_last pages pushed block page size is =
     let none : block - length pages ≡ 0 = omega (arith, size) in
     is ∙ sym (ap (λ (n : ℕ). slice_set (pages ++ replicate n zeros) block page) one
     ∙ (set-append_right pages (zeros ∷ []) (length pages) block page refl (omega (arith, size)) ∙ ap (λ (n : ℕ). pages ++ slice_set (zeros ∷ []) n page) none))
+
+-- a list that is cut has nothing from there on, and all before
+slice_get-take_below : {X : Type 0} → (n i : ℕ) (xs : List X) → i < n → slice_get (take n xs) i ≡ slice_get xs i
+slice_get-take_below zero i xs h = absurd (omega arith)
+slice_get-take_below (suc n) i [] h = refl
+slice_get-take_below (suc n) zero (x ∷ xs) h = refl
+slice_get-take_below (suc n) (suc i) (x ∷ xs) h = slice_get-take_below n i xs (omega arith)
+
+truncated-other : (blocks : Blocks) (number count t b : ℕ) → t ≢ number → truncated blocks number count t b ≡ blocks t b
+unfolding truncated
+truncated-other blocks number count t b h =
+    let e : (eqb t number && nat_le count b) ≡ false = grind (arith, nat_tests) in
+    ap (λ v. cond v None (blocks t b)) e
+
+truncated-below : (blocks : Blocks) (number count b : ℕ) → b < count → truncated blocks number count number b ≡ blocks number b
+unfolding truncated
+truncated-below blocks number count b h =
+    let e : (eqb number number && nat_le count b) ≡ false = grind (arith, nat_tests) in
+    ap (λ v. cond v None (blocks number b)) e
+
+truncated-past : (blocks : Blocks) (number count b : ℕ) → count ≤ b → truncated blocks number count number b ≡ None
+unfolding truncated
+truncated-past blocks number count b h =
+    let e : (eqb number number && nat_le count b) ≡ true = grind (arith, nat_tests) in
+    ap (λ v. cond v None (blocks number b)) e
+
+none-either : (v : Bool) → cond v (let none : Option (List ℕ) = None in none) None ≡ None
+none-either true = refl
+none-either false = refl
+
+-- one table is cut
+module _ (old new : Pool) (number count : ℕ) (table changed : Table)
+    (tables : new.tables.items ≡ slice_set old.tables.items number changed)
+    (here : slice_get old.tables.items number ≡ Some table)
+    (pages : changed.pages.items ≡ take count table.pages.items)
+    (in_tables : number < length old.tables.items) where
+  cut-block : (b : ℕ) → content new number b ≡ cond (nat_lt b 4294967295) (slice_get (take count table.pages.items) b) None
+  cut-block b =
+      content-at new number b changed (ap (λ ts. slice_get ts number) tables ∙ slice_get-set_same old.tables.items number changed in_tables)
+      ∙ ap (λ ps. cond (nat_lt b 4294967295) (slice_get ps b) None) pages
+
+  cut-table : (b : ℕ) → content new number b ≡ truncated (content old) number count number b
+  cut-table b =
+      elim (cases_lt b count) [
+        | inl below ↦ cut-block b
+            ∙ ap (λ page. cond (nat_lt b 4294967295) page None) (slice_get-take_below count b table.pages.items below)
+            ∙ sym (truncated-below (content old) number count b below ∙ content-at old number b table here)
+        | inr past ↦ cut-block b
+            ∙ ap (λ page. cond (nat_lt b 4294967295) page None) (slice_get_past (take count table.pages.items) b (omega (arith, past, length-take count table.pages.items)))
+            ∙ none-either (nat_lt b 4294967295)
+            ∙ sym (truncated-past (content old) number count b past)
+      ]
+
+  pub content-cut : content new ≡ truncated (content old) number count
+  content-cut =
+      fun_ext (λ t. fun_ext (λ b. elim (cases_eq t number) [
+        | inl same ↦ ap (λ x. content new x b) same ∙ cut-table b ∙ sym (ap (λ x. truncated (content old) number count x b) same)
+        | inr other ↦ content-apart old new t b (ap (λ ts. slice_get ts t) tables ∙ slice_get-set_other old.tables.items number t changed other)
+            ∙ sym (truncated-other (content old) number count t b other)
+      ]))

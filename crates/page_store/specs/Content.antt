@@ -1,5 +1,5 @@
 -- What a pool holds: the bytes of each block that a table has.
-use Rattle.std.specs.Prelude.{ℕ, ◌-◌, ◌==◌, Bool, ◌&&◌, nat_lt, List, ◌++◌, length, slice_get, vec_len, replicate, Option, Some, None, Result, Ok, Err, if◌then◌else◌}
+use Rattle.std.specs.Prelude.{ℕ, ◌-◌, ◌==◌, Bool, ◌&&◌, nat_le, nat_lt, List, ◌++◌, length, slice_get, vec_len, replicate, Option, Some, None, Result, Ok, Err, if◌then◌else◌}
 use Rattle.std.specs.Borrow.{Bor, MutBor}
 use Rattle.pg_types.specs.declared.names.Tag.{Tag}
 use Rattle.heap_page.specs.Page.{is_page}
@@ -53,6 +53,10 @@ or_zeros (Some bytes) = Some bytes
 unfoldable pub filled_below : Blocks → Tag → Blocks
 filled_below blocks tag table block =
     if (table == tag.table) && nat_lt block tag.block then or_zeros (blocks table block) else blocks table block
+
+-- the table is cut to so many blocks (smgrtruncate, smgr.c)
+unfoldable pub truncated : Blocks → ℕ → ℕ → Blocks
+truncated blocks number count table block = if (table == number) && nat_le count block then None else blocks table block
 
 -- the page that is lent of a block, or why it is not
 unfoldable pub page_answer : Option (List ℕ) → Result (List ℕ) PoolFault

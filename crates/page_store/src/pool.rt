@@ -28,7 +28,7 @@ pub struct Pool {
 }
 
 impl Pool {
-    ghost use Rattle.page_store.specs.Content.{content, table_count, page_answer, lent, lent_to_read};
+    ghost use Rattle.page_store.specs.Content.{content, table_count, truncated, page_answer, lent, lent_to_read};
     ghost use Rattle.page_store.specs.Held.{HasBlock, HasFresh, IsInitial};
     ghost use Rattle.page_store.specs.Lending.{Holds, LendsPage, LendsLook, LendsFresh};
 
@@ -137,6 +137,17 @@ impl Pool {
         }
         let table = &mut self.tables[tag.table as usize];
         Ok(table.block_mut(tag.block as usize))
+    }
+
+    /// Cuts the table to this many blocks (`smgrtruncate`, smgr.c). A table that has no more blocks stays
+    /// as it is. It takes no memory.
+    #[tactic(auto, unfolding(crate::specs::Content::table_count))]
+    pub fn truncate(&mut self, table: u16, blocks: u32)
+        requires { table < table_count self.old }
+        ensures content { content self.new ≡ truncated (content self.old) table blocks }
+        ensures tables { table_count self.new ≡ table_count self.old }
+    {
+        self.tables[table as usize].truncate(blocks as usize);
     }
 }
 

@@ -1,4 +1,4 @@
-ghost use Rattle.std.specs.Prelude.{◌≡◌, ◌<◌, Some, slice_get, vec_len, length, OnOk, OnErr};
+ghost use Rattle.std.specs.Prelude.{◌≡◌, ◌<◌, Some, slice_get, vec_len, length, take, OnOk, OnErr};
 ghost use Rattle.std.specs.Borrow.{sem};
 
 use heap_page::HeapPage;
@@ -57,5 +57,11 @@ impl Table {
         self.extend(block + 1)?;
         self.pages[block].init();
         Ok(())
+    }
+    /// Takes away the blocks from this number on.
+    pub fn truncate(&mut self, blocks: usize)
+        ensures { self.new.pages.items ≡ take blocks self.old.pages.items }
+    {
+        self.pages.truncate(blocks);
     }
 }

@@ -2,8 +2,12 @@
 //! they stand in the record.
 #![tactic(auto)]
 
+mod entries;
 mod fields;
 mod lists;
 
-pub use fields::{i32_at, i64_at, lsn_at, tli_at, xid_at};
+pub use entries::{
+    FreezePlan, FreezePlans, Locators, LockEntries, LockEntry, Redirect, Redirects, planned_lines,
+};
+pub use fields::{i32_at, i64_at, locator_at, lsn_at, tli_at, xid_at};
 pub use lists::{Lines, RecBytes, Xids};

@@ -137,6 +137,8 @@ impl<'a> Model for Lines<'a> {
 }
 
 impl<'a> Lines<'a> {
+    ghost use Rattle.std.specs.Prelude.{[]};
+
     /// As many lines as are counted, from `at` on, of two bytes each.
     pub fn listed(text: &'a [u8], at: usize, count: usize) -> Lines<'a>
         requires { at + 2 * count ≤ length text.now }
@@ -147,6 +149,18 @@ impl<'a> Lines<'a> {
             text,
             next: at,
             count,
+        }
+    }
+
+    #[tactic(auto, unfolding(crate::specs::Fields::lines_at))]
+    pub fn none() -> Lines<'a>
+        ensures { result ≡ [] }
+    {
+        Lines {
+            is_listed: true,
+            text: &[],
+            next: 0,
+            count: 0,
         }
     }
 

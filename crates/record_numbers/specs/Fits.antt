@@ -1,14 +1,19 @@
 -- The numbers of a typed record fit the fields that they are read from, and what it holds of images and tuples are
 -- bytes.
 -- Sources: xlogrecord.h (XLogRecord, XLogRecordBlockHeader), heapam_xlog.h (xl_heap_header, xl_heap_delete,
--- xl_heap_update, xl_heap_lock, xl_heap_lock_updated).
-use Rattle.std.specs.Prelude.{◌<◌, ◌^◌, All, Option, Some, None}
+-- xl_heap_update, xl_heap_lock, xl_heap_lock_updated, xl_heap_prune, xl_heap_vacuum, xl_heap_freeze_page,
+-- xl_heap_freeze_plan, xl_heap_visible), storage_xlog.h (xl_smgr_truncate).
+use Rattle.std.specs.Prelude.{◌≡◌, ℕ, ◌<◌, ◌^◌, List, [], All, Option, Some, None}
+use Rattle.pg_types.specs.declared.names.Xid.{Xid}
+use Rattle.record_fields.specs.declared.entries.Redirect.{Redirect}
+use Rattle.record_fields.specs.declared.entries.FreezePlan.{FreezePlan}
 use Rattle.wal_bodies.specs.declared.types.RecImage.{RecImage}
 use Rattle.wal_bodies.specs.declared.types.NewTuple.{NewTuple}
 use Rattle.wal_bodies.specs.declared.types.RecBlock.{RecBlock}
 use Rattle.wal_bodies.specs.declared.types.Rec.{Rec}
 use Rattle.wal_bodies.specs.declared.types.RecKind.{RecKind}
-use Rattle.wal_bodies.specs.declared.types.RecKind.TheVariants.{Delete, Update, Lock, LockUpdated}
+use Rattle.wal_bodies.specs.declared.types.RecKind.TheVariants.{Delete, Update, Lock, LockUpdated, Prune, Vacuum, Freeze, Visible, Truncate}
+use Rattle.wal_bodies.specs.Typed.{ids_of}
 use Rattle.pg_types.specs.Bytes.{AreBytes}
 
 -- masks of two bytes, a place of one, and bytes behind the header
@@ -28,15 +33,46 @@ pub record BlockFits (block : RecBlock) : Type 0 where
   pub image : ImageFits block.image
   pub tuples : All TupleFits block.tuples
 
--- an xmax of four bytes (TransactionId), and its bits in one
+-- a line of two bytes (OffsetNumber)
+abbrev pub LineFits : ℕ → Type 0
+LineFits line = line < 2 ^ 16
+
+-- a line that leads to another one
+pub record RedirectFits (line : Redirect) : Type 0 where
+  pub from : LineFits line.from
+  pub to : LineFits line.to
+
+-- an xmax of four bytes, masks of two and flags of one, and the lines
+pub record PlanFits (plan : FreezePlan) : Type 0 where
+  pub xmax : plan.xmax.0 < 2 ^ 32
+  pub mask2 : plan.mask2 < 2 ^ 16
+  pub mask : plan.mask < 2 ^ 16
+  pub flags : plan.flags < 2 ^ 8
+  pub lines : All LineFits plan.lines
+
+-- a horizon of four bytes, and the lines that a prune changes
+pub record PruneFits (horizon : Xid) (redirected : List Redirect) (died freed : List ℕ) : Type 0 where
+  pub xid : horizon.0 < 2 ^ 32
+  pub redirects : All RedirectFits redirected
+  pub dead : All LineFits died
+  pub unused : All LineFits freed
+
+-- an xmax or a horizon of four bytes (TransactionId), an xmax's bits in one, and a number of blocks in four
 abbrev pub KindFits : RecKind → Type 0
 KindFits (Delete xmax line bits flags) = (xmax.0 < 2 ^ 32) × (bits < 2 ^ 8)
 KindFits (Update old_xmax old_line old_bits flags new_xmax new_line) = (old_xmax.0 < 2 ^ 32) × ((old_bits < 2 ^ 8) × (new_xmax.0 < 2 ^ 32))
 KindFits (Lock xmax line bits flags) = (xmax.0 < 2 ^ 32) × (bits < 2 ^ 8)
 KindFits (LockUpdated xmax line bits flags) = (xmax.0 < 2 ^ 32) × (bits < 2 ^ 8)
+KindFits (Prune horizon catalogue redirected died freed) = PruneFits horizon redirected died freed
+KindFits (Vacuum freed) = All LineFits freed
+KindFits (Freeze horizon catalogue plans) = (horizon.0 < 2 ^ 32) × All PlanFits plans
+KindFits (Visible horizon flags) = horizon.0 < 2 ^ 32
+KindFits (Truncate block locator flags) = block < 2 ^ 32
 KindFits _ = Unit {0}
 
+-- and a record whose kind names no block has none
 pub record RecordFits (rec : Rec) : Type 0 where
   pub xid : rec.head.xid.0 < 2 ^ 32
   pub kind : KindFits rec.kind
   pub blocks : All BlockFits rec.blocks
+  pub blockless : ids_of rec.kind ≡ 0 → rec.blocks ≡ []

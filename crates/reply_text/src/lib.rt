@@ -11,5 +11,5 @@ mod words;
 pub use page::push_page_end;
 pub use refusal::push_refusal;
 pub use replays::push_replays;
-pub use status::{push_closed, push_error_line, push_opened, push_status};
+pub use status::{push_cancelled, push_closed, push_error_line, push_opened, push_status};
 pub use words::{push_numbered, push_word};

@@ -1,13 +1,14 @@
 ghost use Rattle.std.specs.Prelude.{◌≡◌, ◌++◌, OnOk, if◌then◌else◌};
 ghost use Rattle.session_model.specs.Answers.{NotUnderstood};
-ghost use Rattle.session_model.specs.Events.{Closed, NoScan, Stands};
+ghost use Rattle.session_model.specs.Events.{Cancelled, Closed, NoScan, Stands};
 ghost use Rattle.session_model.specs.NodeSteps.{opening_reply, status_by};
-ghost use Rattle.session_model.specs.Texts.{answer_text, backup_text, reply_text, state_text};
+ghost use Rattle.session_model.specs.Texts.{answer_text, backup_text, cause_text, reply_text, state_text};
 ghost use Rattle.reply_text.specs.Pieces.{readiness_text, standing_text};
 
 use crate::words::{push_numbered, push_position, push_word};
 use known_assigned::State;
-use pg_types::{Lsn, NoMemory};
+use pg_types::{Lsn, NoMemory, Xid};
+use recovery_conflict::Cause;
 use standby_core::{NodeStatus, Opened};
 use std::alloc::Global;
 
@@ -51,6 +52,8 @@ pub fn push_opened(alloc: Global, opened: &Opened, text: &mut Vec<u8>) -> Result
         Opened::NoTable => text.extend_from_slice(b"no table\n")?,
         Opened::TooMany => text.extend_from_slice(b"too many\n")?,
         Opened::NotAdmitted(status) => push_not_admitted(status, text)?,
+        Opened::Gone { lsn } => push_gone(*lsn, text)?,
+        Opened::Locked { lsn, xid } => push_locked(alloc, *lsn, *xid, text)?,
     }
     Ok(())
 }
@@ -77,6 +80,60 @@ fn push_not_admitted(status: &NodeStatus, text: &mut Vec<u8>) -> Result<(), NoMe
     push_readiness(status, text)?;
     text.push(b'\n')?;
     Ok(())
+}
+
+/// Appends the line of a table whose file was dropped.
+#[tactic(auto, unfolding(session_model::specs::Texts::reply_text))]
+fn push_gone(lsn: Lsn, text: &mut Vec<u8>) -> Result<(), NoMemory>
+    ensures { OnOk result (text.new.items ≡ text.old.items ++ reply_text (opening_reply (Opened.Gone lsn))) }
+{
+    push_position(b"gone ", lsn, text)?;
+    text.push(b'\n')?;
+    Ok(())
+}
+
+/// Appends the line of a table that is locked.
+#[tactic(auto, unfolding(session_model::specs::Texts::reply_text))]
+fn push_locked(alloc: Global, lsn: Lsn, xid: Xid, text: &mut Vec<u8>) -> Result<(), NoMemory>
+    ensures { OnOk result (text.new.items ≡ text.old.items ++ reply_text (opening_reply (Opened.Locked lsn xid))) }
+{
+    push_position(b"locked ", lsn, text)?;
+    push_numbered(alloc, b" ", xid.0, text)?;
+    text.push(b'\n')?;
+    Ok(())
+}
+
+/// Appends the line of a scan that was cancelled.
+#[tactic(auto, unfolding(session_model::specs::Texts::reply_text))]
+pub fn push_cancelled(
+    alloc: Global,
+    id: u64,
+    cause: &Cause,
+    text: &mut Vec<u8>,
+) -> Result<(), NoMemory>
+    ensures { OnOk result (text.new.items ≡ text.old.items ++ reply_text (Cancelled id cause.now)) }
+{
+    push_numbered(alloc, b"cancelled ", id, text)?;
+    text.push(b' ')?;
+    push_cause(alloc, cause, text)?;
+    text.push(b'\n')?;
+    Ok(())
+}
+
+/// Appends why a scan was cancelled.
+fn push_cause(alloc: Global, cause: &Cause, text: &mut Vec<u8>) -> Result<(), NoMemory>
+    ensures { OnOk result (text.new.items ≡ text.old.items ++ cause_text cause.now) }
+{
+    match cause {
+        Cause::Horizon { lsn, horizon } => {
+            push_position(b"horizon ", *lsn, text)?;
+            push_numbered(alloc, b" ", horizon.0, text)
+        }
+        Cause::Lock { lsn, xid } => {
+            push_position(b"lock ", *lsn, text)?;
+            push_numbered(alloc, b" ", xid.0, text)
+        }
+    }
 }
 
 /// Appends the line of a scan that was closed, or that no such scan was open.

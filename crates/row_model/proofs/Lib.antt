@@ -1,5 +1,5 @@
 pub mod Shown
 pub mod Places
 mod Prefixes
-mod WorkedIds
+pub mod WorkedIds
 pub mod WorkedLog

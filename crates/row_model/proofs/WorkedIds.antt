@@ -1,7 +1,6 @@
 -- The worked log keeps to the rules of transactions.
-use Rattle.std.proofs.Common.{◌≡◌, ℕ, ◌<◌, ◌≤◌, true, false, ◌==◌, ◌||◌, nat_lt, List, [], ◌∷◌, arith, refl, sym, inl, inr, subst}
-use Rattle.std.proofs.lemmas.Bool.{eq-eqb, eqb-true, false_from_ne_true, false≢true, le-ltb, lt-ltb, or_cases, or_from, or_left}
-use Rattle.known_assigned.specs.Ids.{is_among}
+use Rattle.std.proofs.Common.{◌≡◌, ℕ, ◌<◌, ◌≤◌, true, false, nat_lt, List, [], ◌∷◌, arith, refl, sym, subst}
+use Rattle.std.proofs.lemmas.Bool.{false≢true, le-ltb, lt-ltb, or_from, or_left}
 use Rattle.transaction_model.specs.Transactions.{TransactionRecord, committed, ended, Live, named}
 use Rattle.transaction_model.specs.LegalTransactions.{CommitRule, Legal, OnlineRule, TransactionOriginRule, RunningRule, before, greatest_next, last_redo, starts_at}
 use Rattle.transaction_model.proofs.NoIds.{among_one, none_ended_at, nothing_head, nothing_rule, one_among}
@@ -64,7 +63,7 @@ online_rule =
     }
 
 -- a live transaction without subtransactions may commit
-commit_rule : (xid : ℕ) (older : List TransactionRecord) → Live worked_ids.at xid older → CommitRule worked_ids xid [] older
+pub commit_rule : (xid : ℕ) (older : List TransactionRecord) → Live worked_ids.at xid older → CommitRule worked_ids xid [] older
 commit_rule xid older live =
     record {
       is_top = refl;

@@ -87,14 +87,14 @@ is_redo log redo = (redo == 0) || list_any (λ (rec : Rec). has_redo redo rec.st
 -- a truncation of the table or a commit that drops it is made under a lock; after that commit no block of it is changed
 pub record LockRule (o : LogOrigin) (table : Locator) (older : List Rec) (rec : Rec) : Type 0 where
   pub cut : (blocks : ℕ) → cut_of table rec.kind ≡ Some blocks → UnderLock o table older rec.head.xid.0
-  pub drop : drops table rec.kind ≡ true → UnderLock o table older rec.head.xid.0
+  pub drop : drops table rec ≡ true → UnderLock o table older rec.head.xid.0
   pub gone : is_gone table older ≡ true → changes_table table rec ≡ false
 
 -- each lock in force of a live transaction is written again from the redo on, by itself or its top transaction
 abbrev pub WritesLocks : LogOrigin → Locator → ℕ → List Rec → Type 0
 WritesLocks o table redo log =
-    (x : ℕ) → is_held_by table log x ≡ true → IsLive o log x
-    → (is_held_by table (since redo log) x ≡ true) ⊎ (is_held_by table (since redo log) (o.transactions.top x) ≡ true)
+    (x : ℕ) → is_held_by o table log x ≡ true → IsLive o log x
+    → (is_held_by o table (since redo log) x ≡ true) ⊎ (is_held_by o table (since redo log) (o.transactions.top x) ≡ true)
 
 -- between an online checkpoint's redo and its own record stands a running record, and up to the last one the locks are
 -- written again

@@ -7,6 +7,7 @@ use Rattle.std.specs.Prelude.{◌≡◌, ◌⊎◌, ℕ, ◌≤◌, Bool, true, 
 use Rattle.pg_types.specs.declared.names.Locator.{Locator}
 use Rattle.wal_bodies.specs.declared.types.Rec.{Rec}
 use Rattle.wal_bodies.specs.declared.types.RecKind.{RecKind}
+use Rattle.wal_bodies.specs.declared.types.RecKind.TheVariants.{Prune, Freeze}
 use Rattle.heap_redo.specs.TupleHeads.{head_bytes, head_of}
 use Rattle.pg_types.specs.Numbers.{has_bits}
 use Rattle.heap_tuple.specs.Tuple.{xmin_of, infomask_of, max_of}
@@ -139,6 +140,8 @@ pub record PlanRule (o : LogOrigin) (older : List Rec) (horizon : ℕ) (plan : F
 
 -- the horizon up to which a record of this kind removes or freezes (snapshotConflictHorizon, heapam_xlog.h)
 abbrev pub horizon_of : RecKind → ℕ
+horizon_of (Prune horizon catalogue redirected died freed) = horizon.0
+horizon_of (Freeze horizon catalogue plans) = horizon.0
 horizon_of kind = 0
 
 abbrev pub RemovalStep : LogOrigin → List Rec → ℕ → List Version → RowStep → Type 0

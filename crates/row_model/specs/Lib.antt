@@ -1,3 +1,4 @@
+pub mod Conflicts
 pub mod LegalRows
 pub mod LegalSteps
 pub mod Locks

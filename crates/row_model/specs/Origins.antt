@@ -9,14 +9,16 @@ use Rattle.transaction_model.specs.LegalTransactions.{TransactionOrigin}
 use Rattle.xact_redo.specs.TransactionsOf.{transactions_of}
 use Rattle.row_model.specs.Versions.{Version}
 
--- a table where a log begins: the versions of its rows, how many blocks it has, and these blocks
+-- a table where a log begins: its oid, by which locks name it, the versions of its rows, how many blocks it has, and these
+-- blocks
 pub record TableOrigin : Type 0 where
+  pub oid : ℕ
   pub versions : List Version
   pub count : ℕ
   pub blocks : ℕ → Seen
 
-abbrev pub empty_table : TableOrigin
-empty_table = record { versions = []; count = 0; blocks = λ (block : ℕ). absent }
+abbrev pub empty_table : ℕ → TableOrigin
+empty_table oid = record { oid = oid; versions = []; count = 0; blocks = λ (block : ℕ). absent }
 
 -- where a log begins, which is the redo position of a base backup: the statuses of transactions and their tree, and
 -- each table by its file
@@ -26,7 +28,7 @@ pub record LogOrigin : Type 0 where
 
 -- each table is empty there, and no transaction has a status
 pub record BeginsEmpty (o : LogOrigin) : Type 0 where
-  pub tables : (table : Locator) → o.tables table ≡ empty_table
+  pub tables : (table : Locator) → o.tables table ≡ empty_table (o.tables table).oid
   pub none_committed : (x : ℕ) → o.transactions.at.is_committed x ≡ false
   pub none_aborted : (x : ℕ) → o.transactions.at.is_aborted x ≡ false
 

@@ -8,19 +8,21 @@ use Rattle.wal_bodies.specs.declared.types.NewTuple.{NewTuple}
 use Rattle.wal_bodies.specs.declared.types.RecBlock.{RecBlock}
 use Rattle.wal_bodies.specs.declared.types.Rec.{Rec}
 use Rattle.wal_bodies.specs.declared.types.RecKind.{RecKind}
-use Rattle.wal_bodies.specs.declared.types.RecKind.TheVariants.{Insert, Delete, Update, Lock, MultiInsert, LockUpdated}
+use Rattle.wal_bodies.specs.declared.types.RecKind.TheVariants.{Insert, Delete, Update, Lock, MultiInsert, LockUpdated, Prune, Vacuum, Freeze, Truncate}
 use Rattle.pg_types.specs.Numbers.{has_bits}
 use Rattle.heap_redo.specs.TupleHeads.{marked_mask}
 use Rattle.heap_redo.specs.After.{applied, joined, number_of, page_of_image, tuple_of, user_data}
-use Rattle.heap_tuple.specs.Tuple.{is_lock_only}
+use Rattle.record_fields.specs.declared.entries.Redirect.{Redirect}
+use Rattle.record_fields.specs.declared.entries.FreezePlan as listed
+use Rattle.heap_tuple.specs.Tuple.{is_lock_only, infomask2_of, infomask_of, xmax_of}
 use Rattle.heap_tuple.specs.declared.tuple_view.MaxOf.{MaxOf}
 use Rattle.heap_tuple.specs.declared.tuple_view.MaxOf.TheVariants.{None as NoDeleter, Xid as DeletedBy, Multi}
-use Rattle.heap_page.specs.Item.{Item, unused, normal, redirect, dead, numbered, tuple_in}
+use Rattle.heap_page.specs.Item.{Item, unused, normal, redirect, dead, is_normal, numbered, tuple_in}
 use Rattle.heap_page.specs.Page.{items_of}
 use Rattle.heap_redo.specs.declared.fault.RedoFault.{RedoFault}
 use Rattle.page_store.specs.Seen.{Seen, absent, View}
-use Rattle.heap_redo.specs.Redone.{is_left, redone, view_outcome}
-use Rattle.row_model.specs.Versions.{Version, RowStep, Born, Deleter, Undone, version_at, with_steps}
+use Rattle.heap_redo.specs.Redone.{is_left, redone_record, view_outcome}
+use Rattle.row_model.specs.Versions.{Version, FreezePlan, RowStep, Born, Deleter, Undone, Removed, Frozen, version_at, with_steps}
 use Rattle.row_model.specs.Origins.{LogOrigin}
 use Rattle.pg_types.specs.Locators.{same_locator}
 
@@ -78,9 +80,51 @@ update_steps rec block old_xmax old_line old_bits new_xmax new_line (Some new_bl
     ∷ version_put rec block (applied block.image) new_xmax new_line (values_of (version_at block.block old_line vs))
 update_steps rec block old_xmax old_line old_bits new_xmax new_line None old_block vs = []
 
+-- the versions at these lines lose their places
+unfoldable pub removals_written : ℕ → List ℕ → List RowStep
+removals_written block lines = map (λ line. Removed block line) lines
+
+-- so do those of the block that an image does not show
+unfoldable pub removals_shown : ℕ → List Item → List Version → List RowStep
+removals_shown block items [] = []
+removals_shown block items (v ∷ vs) =
+    (if v.holds && (v.block == block) && not (is_normal (numbered items v.line)) then Removed block v.line ∷ [] else [])
+    ++ removals_shown block items vs
+
+-- versions are removed at these lines, or by the block's image where that is restored
+unfoldable pub removals : ℕ → Option RecImage → List ℕ → List Version → List RowStep
+removals block None lines vs = removals_written block lines
+removals block (Some image) lines vs = removals_shown block (items_in image) vs
+
+-- a plan, by what it leaves in a tuple's header; and that of a tuple as an image shows it
+abbrev pub plan_of : listed.FreezePlan → FreezePlan
+plan_of plan = record { xmax = plan.xmax.0; mask2 = plan.mask2; mask = plan.mask }
+
+abbrev pub plan_shown : List ℕ → FreezePlan
+plan_shown tuple = record { xmax = xmax_of tuple; mask2 = infomask2_of tuple; mask = infomask_of tuple }
+
+-- the versions at the plans' lines are frozen
+unfoldable pub frozen_written : ℕ → List listed.FreezePlan → List RowStep
+frozen_written block [] = []
+frozen_written block (plan ∷ plans) = map (λ line. Frozen block line (plan_of plan)) plan.lines ++ frozen_written block plans
+
+-- each version of the block is frozen as an image shows it
+unfoldable pub frozen_shown : ℕ → List Item → List Version → List RowStep
+frozen_shown block items [] = []
+frozen_shown block items (v ∷ vs) =
+    (if v.holds && (v.block == block) then Frozen block v.line (plan_shown (tuple_in (numbered items v.line))) ∷ [] else [])
+    ++ frozen_shown block items vs
+
+unfoldable pub freezes_in : ℕ → Option RecImage → List listed.FreezePlan → List Version → List RowStep
+freezes_in block None plans vs = frozen_written block plans
+freezes_in block (Some image) plans vs = frozen_shown block (items_in image) vs
+
+-- the lines that are made other than normal as a page is pruned
+abbrev pub pruned_lines : List Redirect → List ℕ → List ℕ → List ℕ
+pruned_lines redirected died freed = map (λ (line : Redirect). line.from) redirected ++ died ++ freed
+
 -- the steps of a record of this kind in one of its blocks; a deletion with XLH_DELETE_IS_SUPER takes a speculative
--- insertion back. Versions are removed by XLOG_HEAP2_PRUNE and XLOG_HEAP2_VACUUM and frozen by
--- XLOG_HEAP2_FREEZE_PAGE, which are not read yet
+-- insertion back
 unfoldable pub own_steps : Rec → RecBlock → RecKind → List Version → List RowStep
 own_steps rec block (Insert line flags) vs = births rec block (applied block.image) (line ∷ [])
 own_steps rec block (MultiInsert flags lines) vs = births rec block (applied block.image) lines
@@ -90,6 +134,10 @@ own_steps rec block (Update old_xmax old_line old_bits flags new_xmax new_line) 
     update_steps rec block old_xmax.0 old_line old_bits new_xmax.0 new_line (number_of 0 rec.blocks) (number_of 1 rec.blocks) vs
 own_steps rec block (Lock xmax line bits flags) vs = Deleter block.block line (deleter_of_mark xmax.0 bits) ∷ []
 own_steps rec block (LockUpdated xmax line bits flags) vs = Deleter block.block line (deleter_of_mark xmax.0 bits) ∷ []
+own_steps rec block (Prune horizon catalogue redirected died freed) vs =
+    removals block.block (applied block.image) (pruned_lines redirected died freed) vs
+own_steps rec block (Vacuum freed) vs = removals block.block (applied block.image) freed vs
+own_steps rec block (Freeze horizon catalogue plans) vs = freezes_in block.block (applied block.image) plans vs
 own_steps rec block _ vs = []
 
 -- whether a record of this kind puts tuples of its own into the block
@@ -133,8 +181,9 @@ count_with rec table count (block ∷ blocks) =
     (if same_locator table block.locator && not (is_left rec block) then max count (block.block + 1) else count)
     blocks
 
--- to how many blocks a record of this kind cuts the table: XLOG_SMGR_TRUNCATE brings it (storage_xlog.h)
+-- to how many blocks a record of this kind cuts the table (XLOG_SMGR_TRUNCATE, storage_xlog.h)
 abbrev pub cut_of : Locator → RecKind → Option ℕ
+cut_of table (Truncate blocks locator flags) = if same_locator table locator then Some blocks else None
 cut_of table kind = None
 
 -- so many blocks, if they are not cut to fewer
@@ -170,7 +219,7 @@ view_before o known table block = blocks_of o (slice_get known table) block
 unfoldable pub view_with_record : Rec → List Locator → Result View RedoFault → Result View RedoFault
 view_with_record rec known (Err fault) = Err fault
 view_with_record rec known (Ok view) =
-    view_outcome (redone rec known rec.blocks view).0 (redone rec known rec.blocks view).1
+    view_outcome (redone_record rec known view).0 (redone_record rec known view).1
 
 -- the blocks after redo of a log's records, the newest first, over those where the log begins, or the fault of the
 -- first that is refused

@@ -1,8 +1,9 @@
 -- A log of a table's rows, worked by hand: 700 inserts (1, 'alpha-one-omega') into a new block and commits, and 701
 -- updates it in the same block to (1, 'alpha-two-omega'), of which its record has only what differs, and commits.
 -- Sources: heapam.c (heap_insert, heap_update, log_heap_update), htup_details.h.
-use Rattle.std.specs.Prelude.{ℕ, ◌-◌, pos, Bool, true, false, List, [], ◌∷◌, All, None}
+use Rattle.std.specs.Prelude.{ℕ, ◌-◌, pos, Bool, true, false, List, [], ◌∷◌, All, None, if◌then◌else◌}
 use Rattle.pg_types.specs.declared.names.Locator.{Locator}
+use Rattle.pg_types.specs.Locators.{same_locator}
 use Rattle.wal_bodies.specs.declared.types.NewTuple.{NewTuple}
 use Rattle.wal_bodies.specs.declared.types.RecBlock.{RecBlock}
 use Rattle.wal_bodies.specs.declared.types.Rec.{Rec}
@@ -23,12 +24,20 @@ abbrev pub worked_ids : TransactionOrigin
 worked_ids =
     record { at = record { is_committed = λ (x : ℕ). false; is_aborted = λ (x : ℕ). false }; top = λ (x : ℕ). x }
 
--- and each table is empty
-abbrev pub worked_origin : LogOrigin
-worked_origin = record { transactions = worked_ids; tables = λ (table : Locator). empty_table }
-
+-- the files of the two described tables, and the oid of each; 0 of any other
 abbrev pub worked_table : Locator
 worked_table = record { space = 1663; db = 16384; rel = 16385 }
+
+abbrev pub unworked_table : Locator
+unworked_table = record { space = 1663; db = 16384; rel = 16390 }
+
+abbrev pub worked_oid : Locator → ℕ
+worked_oid table =
+    if same_locator worked_table table then 16385 else if same_locator unworked_table table then 16390 else 0
+
+-- and each table is empty
+abbrev pub worked_origin : LogOrigin
+worked_origin = record { transactions = worked_ids; tables = λ (table : Locator). empty_table (worked_oid table) }
 
 -- a record of this manager and info, from one position to the next
 abbrev pub worked_record : ℕ → ℕ → ℕ → ℕ → ℕ → RecKind → List RecBlock → Rec
@@ -106,7 +115,7 @@ abbrev pub insert_by_700 : Rec
 insert_by_700 = worked_record 0x2000100 0x2000150 700 10 0x80 (Insert 1 0) (worked_block true first_tuple)
 
 abbrev pub commit_of_700 : Rec
-commit_of_700 = worked_record 0x2000150 0x2000178 700 1 0x00 (Ended (pos 0) 0 []) []
+commit_of_700 = worked_record 0x2000150 0x2000178 700 1 0x00 (Ended (pos 0) 0 [] []) []
 
 -- heap-only (0x40), with a prefix and a suffix from the old version (0x60)
 abbrev pub update_by_701 : Rec
@@ -114,7 +123,7 @@ update_by_701 =
     worked_record 0x2000178 0x20001C8 701 10 0x40 (Update (record { 0 = 701 }) 1 0 0x60 (record { 0 = 0 }) 2) (worked_block false second_tuple)
 
 abbrev pub commit_of_701 : Rec
-commit_of_701 = worked_record 0x20001C8 0x20001F0 701 1 0x00 (Ended (pos 0) 0 []) []
+commit_of_701 = worked_record 0x20001C8 0x20001F0 701 1 0x00 (Ended (pos 0) 0 [] []) []
 
 -- before the first row, after the first commit, and after the second
 abbrev pub worked_start : List Rec

@@ -1,5 +1,5 @@
 -- The rows that a scan finds are the table's rows: they have the version of each place that is a row, and no other.
-use Rattle.std.proofs.Common.{◌≡◌, ℕ, zero, suc, ◌+◌, ◌-◌, ◌<◌, ◌≤◌, Bool, false, cond, List, [], ◌∷◌, ◌++◌, All, Result, Option, Some, None, arith, refl, sym, ap, ◌∙◌, subst, inl, inr}
+use Rattle.std.proofs.Common.{◌≡◌, ℕ, zero, suc, ◌+◌, ◌-◌, ◌<◌, ◌≤◌, Bool, true, false, cond, List, [], ◌∷◌, ◌++◌, All, Result, Option, Some, None, arith, refl, sym, ap, ◌∙◌, subst, inl, inr}
 use Rattle.std.specs.List.{filter}
 use Rattle.std.proofs.lemmas.Bool.{both_ways, cases_Bool, cases_eq, cases_lt, cond_both, true_from_ne_false}
 use Rattle.std.proofs.lemmas.List.Elements.{All-head, All-tail}
@@ -10,7 +10,7 @@ use Rattle.page_store.specs.Seen.{Seen, absent, bad_block, seen_page}
 use Rattle.row_model.specs.Versions.{Version, is_at, version_at}
 use Rattle.row_model.specs.Rows.{IsRows, is_row}
 use Rattle.row_model.specs.Multixacts.{Made}
-use Rattle.row_pages.specs.Pages.{AreScanned, ReadsPlace, ReadsSeen, ReadsTable, ScanGivesRead, rows_of_versions}
+use Rattle.row_pages.specs.Pages.{AreScanned, ReadsPlace, ReadsSeen, ReadsTable, ReadsTested, ScanGivesRead, rows_of_versions}
 use Rattle.row_pages.proofs.Each.{Each, Stands, each-weaker}
 use Rattle.row_pages.proofs.Places.{kept, first_of_two, at_head, at_none, version_at-append, version_at-filter, none_where, found_at, found_holds, from_place, off_block, off_line, apart-filter}
 use Rattle.row_pages.proofs.Permuted.{HaveSame, permuted}
@@ -21,12 +21,18 @@ first_alone : (o : Option Version) → first_of_two o None ≡ o
 first_alone None = refl
 first_alone (Some v) = refl
 
--- no version stands at a line without a tuple
+-- no version that passes stands at a line without a tuple
+tested_none :
+    (columns : List Column) (sees : List ℕ → Result Bool Unknown) (t : Bool) (v : Version)
+    → ReadsTested columns sees t v unused → cond {A = Option Version} t (Some v) None ≡ None
+tested_none columns sees true v (tuple, is, seen, row) = cc
+tested_none columns sees false v reads = refl
+
 free_none :
     (columns : List Column) (sees : List ℕ → Result Bool Unknown) (test : Version → Bool) (o : Option Version)
-    → ReadsPlace columns sees test o unused → o ≡ None
+    → ReadsPlace columns sees test o unused → kept test o ≡ None
 free_none columns sees test None reads = refl
-free_none columns sees test (Some v) (tuple, is, seen, row) = cc
+free_none columns sees test (Some v) reads = tested_none columns sees (test v) v reads
 
 -- a version that stands at a place, where it passes
 alone_at :
@@ -87,10 +93,10 @@ later_at test vs block line first more other =
 
 none_past :
     (columns : List Column) (sees : List ℕ → Result Bool Unknown) (test : Version → Bool) (vs : List Version) (block from line : ℕ)
-    → ReadsLines columns sees test vs block from [] → from ≤ line → version_at block line vs ≡ None
+    → ReadsLines columns sees test vs block from [] → from ≤ line → kept test (version_at block line vs) ≡ None
 none_past columns sees test vs block from line reads past =
     let at : from + (line - from) ≡ line = omega arith in
-    subst (λ (n : ℕ). version_at block n vs ≡ None) at (free_none columns sees test _ (reads.each (line - from)))
+    subst (λ (n : ℕ). kept test (version_at block n vs) ≡ None) at (free_none columns sees test _ (reads.each (line - from)))
 
 -- the rows at the lines of a page have the version of each place that is one
 on_at :
@@ -99,7 +105,7 @@ on_at :
     → version_at block line (rows_on test vs block from items) ≡ kept test (version_at block line vs)
 unfolding rows_on
 on_at columns sees test vs block from line [] reads past =
-    at_none block line ∙ ap (kept test) (sym (none_past columns sees test vs block from line reads past))
+    at_none block line ∙ sym (none_past columns sees test vs block from line reads past)
 on_at columns sees test vs block from line (item ∷ items) reads past =
     elim (cases_eq line from) [
       | inl e ↦
@@ -117,7 +123,7 @@ page_at :
     (items : List Item) → ReadsSeen columns sees test vs block (seen_page lsn items)
     → version_at block line (rows_on test vs block 1 items) ≡ kept test (version_at block line vs)
 page_at columns sees test vs block zero lsn items reads =
-    none_before test vs block zero 1 items (omega arith) ∙ ap (kept test) (sym (free_none columns sees test _ (reads zero)))
+    none_before test vs block zero 1 items (omega arith) ∙ sym (free_none columns sees test _ (reads zero))
 page_at columns sees test vs block (suc n) lsn items reads =
     on_at columns sees test vs block 1 (suc n) items (page_lines columns sees test vs block lsn items reads) (omega arith)
 

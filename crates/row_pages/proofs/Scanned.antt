@@ -8,7 +8,7 @@ use Rattle.heap_page.specs.Item.{Item, unused, normal, redirect, dead, item_in}
 use Rattle.page_store.specs.Seen.{Seen, absent, bad_block, seen_page}
 use Rattle.seq_scan.specs.BlockRows.{BlockRows, with_values, with_tuple, rows_from, block_rows}
 use Rattle.row_model.specs.Versions.{Version, version_at}
-use Rattle.row_pages.specs.Pages.{ReadsPlace, ReadsSeen, rows_of_versions}
+use Rattle.row_pages.specs.Pages.{ReadsNothing, ReadsPlace, ReadsSeen, ReadsTested, rows_of_versions}
 use Rattle.row_pages.proofs.Places.{found_at}
 use Rattle.row_pages.proofs.Found.{row_in, rows_on, rows_in}
 
@@ -22,15 +22,13 @@ read columns sees line tuple items = refl
 
 -- the row of a version before others
 valued :
-    (columns : List Column) (line : ℕ) (tuple : List ℕ) (v : Version) (more : List Version) (t : Bool)
-    → v.line ≡ line → row_of tuple columns ≡ row_of v.tuple columns
-    → with_tuple columns line tuple (Ok t) (rows_of_versions columns more)
-    ≡ rows_of_versions columns (cond t (v ∷ []) [] ++ more)
+    (columns : List Column) (line : ℕ) (tuple : List ℕ) (v : Version) (more : List Version) → v.line ≡ line
+    → row_of tuple columns ≡ row_of v.tuple columns
+    → with_tuple columns line tuple (Ok true) (rows_of_versions columns more) ≡ rows_of_versions columns (v ∷ more)
 unfolding rows_of_versions
-valued columns line tuple v more true here row =
+valued columns line tuple v more here row =
     ap (λ (n : ℕ). with_values n (row_of tuple columns) (rows_of_versions columns more)) (sym here)
     ∙ ap (λ (r : Result (List Cell) RowRefusal). with_values v.line r (rows_of_versions columns more)) row
-valued columns line tuple v more false here row = refl
 
 -- what is read of the versions of a block, from a line on
 pub record ReadsLines (columns : List Column) (sees : List ℕ → Result Bool Unknown) (test : Version → Bool) (vs : List Version) (block line : ℕ) (items : List Item) : Type 0 where
@@ -50,7 +48,7 @@ module _ (columns : List Column) (sees : List ℕ → Result Bool Unknown) (test
 
   -- a line of which no tuple is seen gives nothing
   unseen :
-      (line : ℕ) (item : Item) (items : List Item) → ReadsPlace columns sees test None item
+      (line : ℕ) (item : Item) (items : List Item) → ReadsNothing sees item
       → rows_from columns sees line (item ∷ items) ≡ rows_from columns sees (line + 1) items
   unfolding rows_from
   unseen line unused items reads = refl
@@ -59,18 +57,27 @@ module _ (columns : List Column) (sees : List ℕ → Result Bool Unknown) (test
   unseen line (redirect to) items reads = refl
   unseen line dead items reads = refl
 
+  -- the row of a version that passes, or nothing
+  tested_line :
+      (line : ℕ) (t : Bool) (v : Version) (item : Item) (items : List Item) (more : List Version)
+      → ReadsTested columns sees t v item → v.line ≡ line → rows_from columns sees (line + 1) items ≡ rows_of_versions columns more
+      → rows_from columns sees line (item ∷ items) ≡ rows_of_versions columns (cond t (v ∷ []) [] ++ more)
+  tested_line line true v item items more (tuple, is, seen, row) here rest =
+      ap (λ (i : Item). rows_from columns sees line (i ∷ items)) is
+      ∙ read columns sees line tuple items
+      ∙ ap (λ (r : BlockRows). with_tuple columns line tuple (sees tuple) r) rest
+      ∙ ap (λ (r : Result Bool Unknown). with_tuple columns line tuple r (rows_of_versions columns more)) seen
+      ∙ valued columns line tuple v more here row
+  tested_line line false v item items more reads here rest = unseen line item items reads ∙ rest
+
   first_line :
       (line : ℕ) (o : Option Version) (item : Item) (items : List Item) (more : List Version)
       → ReadsPlace columns sees test o item → ((v : Version) → o ≡ Some v → v.line ≡ line)
       → rows_from columns sees (line + 1) items ≡ rows_of_versions columns more
       → rows_from columns sees line (item ∷ items) ≡ rows_of_versions columns (row_in test o ++ more)
   first_line line None item items more reads here rest = unseen line item items reads ∙ rest
-  first_line line (Some v) item items more (tuple, is, seen, row) here rest =
-      ap (λ (i : Item). rows_from columns sees line (i ∷ items)) is
-      ∙ read columns sees line tuple items
-      ∙ ap (λ (r : BlockRows). with_tuple columns line tuple (sees tuple) r) rest
-      ∙ ap (λ (r : Result Bool Unknown). with_tuple columns line tuple r (rows_of_versions columns more)) seen
-      ∙ valued columns line tuple v more (test v) (here v refl) row
+  first_line line (Some v) item items more reads here rest =
+      tested_line line (test v) v item items more reads (here v refl) rest
 
   place_zero :
       (vs : List Version) (block line : ℕ) (item : Item) (items : List Item)

@@ -13,6 +13,7 @@ use Rattle.row_model.specs.Multixacts.{multixacts}
 use Rattle.row_model.specs.Shows.{ShowsPlace}
 use Rattle.row_model.specs.Shown.{IsSound, ShowsSeen, ShowsTable}
 use Rattle.row_pages.specs.Pages.{ReadsPlace, ReadsSeen, ReadsTable, ScanGivesRows, SeesThem, is_row_in}
+use Rattle.row_pages.proofs.Reading.{tested}
 use Rattle.row_pages.proofs.SameRow.{row_same}
 use Rattle.row_pages.proofs.Rows.{scan_gives_read_holds}
 use Rattle.row_model.proofs.Shown.{none_there}
@@ -26,7 +27,8 @@ module _ (origin : LogOrigin) (log : List Rec) (vs : List Version) (count : ℕ)
   place_read None item shows known = λ tuple is. absurd (both_ways (is_normal item) shows (ap is_normal is))
   place_read (Some v) item (tuple, is, shown) known =
       let (sound, behind) = known v refl in
-      (tuple, is, seen v tuple shown sound, row_same tuple v.tuple columns shown.row behind)
+      tested columns sees (is_row_in origin log v) v item tuple is (seen v tuple shown sound)
+      (row_same tuple v.tuple columns shown.row behind)
 
   seen_read :
       (block : ℕ) (page : Seen) → block < count → ShowsSeen origin log vs count block page

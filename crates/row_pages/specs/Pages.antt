@@ -1,5 +1,5 @@
 -- What the blocks of a table give to a scan, where they show the table's versions.
-use Rattle.std.specs.Prelude.{◌≡◌, ℕ, ◌<◌, ◌≤◌, ◌==◌, Bool, false, List, [], ◌∷◌, All, filter, Option, Some, None, Ok, Result}
+use Rattle.std.specs.Prelude.{◌≡◌, ℕ, ◌<◌, ◌≤◌, ◌==◌, Bool, true, false, List, [], ◌∷◌, All, filter, Option, Some, None, Ok, Result}
 use Rattle.pg_types.specs.declared.status.Unknown.{Unknown}
 use Rattle.heap_tuple.specs.Values.{row_of}
 use Rattle.heap_tuple.specs.declared.cell.Column.{Column}
@@ -43,12 +43,25 @@ ScanGivesRows =
     → ShowsTable o log vs count blocks → SeesThem o log sees
     → (rows : List Version) × IsRows (multixacts log) (committed_in o log) vs rows × AreScanned columns sees count blocks rows
 
--- what a scan reads at a line: no tuple that is seen, where no version stands; else one that is seen exactly where the
--- version passes a test, and has its row
+-- a scan reads nothing at a line: no tuple there is seen
+abbrev pub ReadsNothing : (List ℕ → Result Bool Unknown) → Item → Type 0
+ReadsNothing sees item = (tuple : List ℕ) → item ≡ normal tuple → sees tuple ≡ Ok false
+
+-- it reads a version there: a tuple that is seen and has its row
+abbrev pub ReadsVersion : List Column → (List ℕ → Result Bool Unknown) → Version → Item → Type 0
+ReadsVersion columns sees v item =
+    (tuple : List ℕ) × (item ≡ normal tuple) × (sees tuple ≡ Ok true) × (row_of tuple columns ≡ row_of v.tuple columns)
+
+-- it reads the version exactly where that passes a test
+abbrev pub ReadsTested : List Column → (List ℕ → Result Bool Unknown) → Bool → Version → Item → Type 0
+ReadsTested columns sees true v item = ReadsVersion columns sees v item
+ReadsTested columns sees false v item = ReadsNothing sees item
+
+-- what it reads at the line of a place: the version that stands there, where that passes a test, and else nothing; so
+-- there a version that does not pass may have given its place to another that is not seen
 abbrev pub ReadsPlace : List Column → (List ℕ → Result Bool Unknown) → (Version → Bool) → Option Version → Item → Type 0
-ReadsPlace columns sees test None item = (tuple : List ℕ) → item ≡ normal tuple → sees tuple ≡ Ok false
-ReadsPlace columns sees test (Some v) item =
-    (tuple : List ℕ) × (item ≡ normal tuple) × (sees tuple ≡ Ok (test v)) × (row_of tuple columns ≡ row_of v.tuple columns)
+ReadsPlace columns sees test None item = ReadsNothing sees item
+ReadsPlace columns sees test (Some v) item = ReadsTested columns sees (test v) v item
 
 -- a block is a page, of which it reads the versions of these places
 abbrev pub ReadsSeen : List Column → (List ℕ → Result Bool Unknown) → (Version → Bool) → List Version → ℕ → Seen → Type 0

@@ -1,29 +1,33 @@
 -- What a record changes in a block goes with its steps there.
-use Rattle.std.proofs.Common.{◌≡◌, ℕ, suc, ◌-◌, ◌^◌, ◌<◌, ◌==◌, Bool, true, false, bit_and, List, [], ◌∷◌, ◌++◌, length, take, drop, All, Option, Some, None, Result, Ok, Err, refl, sym, ap, subst, ◌∙◌, arith, if◌then◌else◌}
+use Rattle.std.proofs.Common.{◌≡◌, ℕ, suc, ◌-◌, ◌^◌, ◌<◌, ◌==◌, Bool, true, false, bit_and, List, [], ◌∷◌, ◌++◌, map, length, take, drop, All, Option, Some, None, Result, Ok, Err, refl, sym, ap, subst, ◌∙◌, arith, if◌then◌else◌}
 use Rattle.std.proofs.lemmas.Bool.{false≢true}
 use Rattle.std.proofs.lemmas.List.Elements.{All-append, All-drop, All-nil, All-take}
 use Rattle.heap_tuple.specs.Tuple.{IsTuple, hoff_of}
-use Rattle.heap_page.specs.Item.{Item, normal, numbered, is_normal, tuple_in}
+use Rattle.heap_page.specs.Item.{Item, unused, normal, redirect, dead, numbered, is_normal, is_unused, tuple_in}
+use Rattle.record_fields.specs.declared.entries.Redirect.{Redirect}
+use Rattle.record_fields.specs.declared.entries.FreezePlan as listed
 use Rattle.row_model.specs.Origins.{LogOrigin}
 use Rattle.wal_bodies.specs.declared.types.RecImage.{RecImage}
 use Rattle.wal_bodies.specs.declared.types.NewTuple.{NewTuple}
 use Rattle.wal_bodies.specs.declared.types.RecBlock.{RecBlock}
 use Rattle.wal_bodies.specs.declared.types.Rec.{Rec}
 use Rattle.wal_bodies.specs.declared.types.RecKind.{RecKind}
-use Rattle.wal_bodies.specs.declared.types.RecKind.TheVariants.{Checkpoint, BackupEnd, Parameters, FullPageWrites, Images, Overwrite, Ended, Running, Insert, Delete, Update, Confirm, Lock, MultiInsert, LockUpdated, Other}
+use Rattle.wal_bodies.specs.declared.types.RecKind.TheVariants.{Checkpoint, BackupEnd, Parameters, FullPageWrites, Images, Overwrite, Ended, Running, Insert, Delete, Update, Confirm, Lock, MultiInsert, LockUpdated, Prune, Vacuum, Freeze, Visible, Truncate, Locks, Other}
 use Rattle.pg_types.specs.Numbers.{has_bits}
-use Rattle.heap_redo.specs.TupleHeads.{Head, marked, deleted, replaced, locked}
-use Rattle.heap_redo.specs.After.{BlockRefusal, no_tuple, ◌>>=◌, applied, put, put_listed, put_version, change_head, tuple_of, joined, user_data, is_short, update_old, update_within, update, number_of, changed, new_head}
-use Rattle.row_model.specs.Versions.{Version, RowStep, Born, Deleter, Undone, version_at, with_step, with_steps}
-use Rattle.row_model.specs.RowSteps.{deleter_of_mark, births_written, births, version_written, version_put, values_of, update_steps, own_steps}
+use Rattle.heap_redo.specs.TupleHeads.{Head, marked, deleted, replaced, locked, frozen}
+use Rattle.heap_redo.specs.After.{BlockRefusal, no_tuple, ◌>>=◌, applied, put, put_listed, put_version, change_head, tuple_of, joined, user_data, is_short, update_old, update_within, update, number_of, changed, new_head, set_line, set_lines, redirect_line, redirect_lines, prune, freeze_lines, freeze}
+use Rattle.row_model.specs.Versions.{Version, RowStep, Born, Deleter, Undone, Removed, Frozen, version_at, with_step, with_steps}
+use Rattle.row_model.specs.RowSteps.{deleter_of_mark, births_written, births, version_written, version_put, values_of, update_steps, own_steps, removals_written, removals, plan_of, frozen_written, freezes_in, pruned_lines}
 use Rattle.row_model.specs.Shows.{ShowsPlace, ShowsBlock}
 use Rattle.pg_types.specs.Bytes.{AreBytes}
-use Rattle.record_numbers.specs.Fits.{TupleFits, BlockFits, KindFits, RecordFits}
+use Rattle.record_numbers.specs.Fits.{TupleFits, BlockFits, KindFits, PlanFits, RecordFits}
 use Rattle.row_redo.proofs.Rules.{StepsRule}
 use Rattle.row_redo.proofs.Fitting.{TuplesFit}
 use Rattle.row_redo.proofs.Heads.{head-bytes, same-values, Marks, marks-marked, marks-replaced, marks-locked, marks-deleted}
 use Rattle.row_redo.proofs.OneLine.{change-done}
-use Rattle.row_redo.proofs.OneStep.{born-shown, deleter-shown, undone-shown, pointed-shown}
+use Rattle.row_redo.proofs.Frozen.{PlanSmall}
+use Rattle.row_redo.proofs.Places.{rules_split, steps_joined}
+use Rattle.row_redo.proofs.OneStep.{born-shown, deleter-shown, undone-shown, pointed-shown, removed-shown, frozen-shown}
 
 -- a block shows these versions, and its tuples fit
 abbrev pub Shown : LogOrigin → List Rec → List Version → ℕ → List Item → Type 0
@@ -140,6 +144,104 @@ within-shown from log vs rec block is_hot old_xmax old_line old_bits new_xmax ne
     (version-shown from log then_vs rec block new_xmax new_line old block.tuples next after fits old_bytes
     (subst (λ (o : List ℕ). StepsRule from log then_vs (version_written rec block new_xmax new_line o block.tuples)) (sym values) rules) step put_ok)
 
+-- lines become ones that show no tuple, one after the other
+bare-shown :
+    (from : LogOrigin) (log : List Rec) (vs : List Version) (block : ℕ) (item : Item) (lines : List ℕ) (items after : List Item)
+    → is_normal item ≡ false → Shown from log vs block items → set_lines item lines items ≡ Ok after
+    → Shown from log (with_steps vs (removals_written block lines)) block after
+unfolding set_lines removals_written with_steps
+bare-shown from log vs block item [] items after bare shown e = subst (Shown from log vs block) (cc) shown
+bare-shown from log vs block item (line ∷ lines) items after bare (shows, fit) e =
+    let (next, first, rest) = both-done (set_line line item items) (λ (l : List Item). set_lines item lines l) after e in
+    bare-shown from log (with_step vs (Removed block line)) block item lines next after bare
+    (removed-shown from log vs block line item items next bare fit shows first) rest
+
+-- a line leads to another, once it was set so
+one-led : (line : Redirect) (items after : List Item) → redirect_line line items ≡ Ok after → set_line line.from (redirect line.to) items ≡ Ok after
+unfolding redirect_line
+one-led line items after e =
+    let refused = is_unused (numbered items line.to) in
+    let (next, first, rest) = both-done (set_line line.from (redirect line.to) items)
+    (λ (l : List Item). if refused then Err (no_tuple line.to) else Ok l) after e in
+    first ∙ unless refused (no_tuple line.to) (Ok next) after rest
+
+led-shown :
+    (from : LogOrigin) (log : List Rec) (vs : List Version) (block : ℕ) (redirected : List Redirect) (items after : List Item)
+    → Shown from log vs block items → redirect_lines redirected items ≡ Ok after
+    → Shown from log (with_steps vs (removals_written block (map (λ (line : Redirect). line.from) redirected))) block after
+unfolding redirect_lines removals_written with_steps
+led-shown from log vs block [] items after shown e = subst (Shown from log vs block) (cc) shown
+led-shown from log vs block (line ∷ redirected) items after (shows, fit) e =
+    let (next, first, rest) = both-done (redirect_line line items) (λ (l : List Item). redirect_lines redirected l) after e in
+    led-shown from log (with_step vs (Removed block line.from)) block redirected next after
+    (removed-shown from log vs block line.from (redirect line.to) items next refl fit shows (one-led line items next first)) rest
+
+-- removals, and then others
+removals-joined : (block : ℕ) (a b : List ℕ) → removals_written block (a ++ b) ≡ removals_written block a ++ removals_written block b
+unfolding removals_written
+removals-joined block [] b = refl
+removals-joined block (line ∷ a) b = ap (λ (l : List RowStep). Removed block line ∷ l) (removals-joined block a b)
+
+removed-joined :
+    (block : ℕ) (a b : List ℕ) (vs : List Version)
+    → with_steps vs (removals_written block (a ++ b)) ≡ with_steps (with_steps vs (removals_written block a)) (removals_written block b)
+removed-joined block a b vs =
+    ap (with_steps vs) (removals-joined block a b) ∙ steps_joined (removals_written block a) (removals_written block b) vs
+
+-- a page is pruned
+prune-shown :
+    (from : LogOrigin) (log : List Rec) (vs : List Version) (block : ℕ) (redirected : List Redirect) (died freed : List ℕ)
+    (items after : List Item) → Shown from log vs block items → prune redirected died freed items ≡ Ok after
+    → Shown from log (with_steps vs (removals_written block (pruned_lines redirected died freed))) block after
+unfolding prune
+prune-shown from log vs block redirected died freed items after shown e =
+    let sources = map (λ (line : Redirect). line.from) redirected in
+    let (led, first, rest) = both-done (redirect_lines redirected items)
+    (λ (l : List Item). set_lines dead died l >>= (λ (m : List Item). set_lines unused freed m)) after e in
+    let (left, second, third) = both-done (set_lines dead died led) (λ (m : List Item). set_lines unused freed m) after rest in
+    let led_vs = with_steps vs (removals_written block sources) in
+    let left_vs = with_steps led_vs (removals_written block died) in
+    let once_left = bare-shown from log led_vs block dead died led left refl (led-shown from log vs block redirected items led shown first) second in
+    subst (λ (l : List Version). Shown from log l block after)
+    (sym (removed-joined block (sources ++ died) freed vs
+    ∙ ap (λ (l : List Version). with_steps l (removals_written block freed)) (removed-joined block sources died vs)))
+    (bare-shown from log left_vs block unused freed left after refl once_left third)
+
+-- the numbers of a plan
+plan-small : (plan : listed.FreezePlan) → PlanFits plan → PlanSmall (plan_of plan)
+plan-small plan fits = record { xmax = fits.xmax; mask2 = fits.mask2; mask = fits.mask }
+
+-- the tuples of these lines are frozen by a plan
+lines_frozen-shown :
+    (from : LogOrigin) (log : List Rec) (vs : List Version) (block : ℕ) (plan : listed.FreezePlan) (lines : List ℕ)
+    (items after : List Item) → PlanSmall (plan_of plan) → StepsRule from log vs (map (λ line. Frozen block line (plan_of plan)) lines)
+    → Shown from log vs block items → freeze_lines plan lines items ≡ Ok after
+    → Shown from log (with_steps vs (map (λ line. Frozen block line (plan_of plan)) lines)) block after
+unfolding freeze_lines with_steps
+lines_frozen-shown from log vs block plan [] items after small rule shown e = subst (Shown from log vs block) (cc) shown
+lines_frozen-shown from log vs block plan (line ∷ lines) items after small (rule, rules) (shows, fit) e =
+    let (next, first, rest) = both-done (change_head line (λ (head : Head). frozen plan.xmax.0 plan.mask2 plan.mask head) items)
+    (λ (l : List Item). freeze_lines plan lines l) after e in
+    lines_frozen-shown from log (with_step vs (Frozen block line (plan_of plan))) block plan lines next after small rules
+    (frozen-shown from log vs block line rule.horizon (plan_of plan) items next small rule.removals fit shows first) rest
+
+-- each plan freezes its lines
+freeze-shown :
+    (from : LogOrigin) (log : List Rec) (vs : List Version) (block : ℕ) (plans : List listed.FreezePlan) (items after : List Item)
+    → All PlanFits plans → StepsRule from log vs (frozen_written block plans) → Shown from log vs block items
+    → freeze plans items ≡ Ok after → Shown from log (with_steps vs (frozen_written block plans)) block after
+unfolding freeze frozen_written with_steps
+freeze-shown from log vs block [] items after fits rule shown e = subst (Shown from log vs block) (cc) shown
+freeze-shown from log vs block (plan ∷ plans) items after fits rule shown e =
+    let steps : List RowStep = map (λ line. Frozen block line (plan_of plan)) plan.lines in
+    let others : List RowStep = frozen_written block plans in
+    let (next, first, rest) = both-done (freeze_lines plan plan.lines items) (λ (l : List Item). freeze plans l) after e in
+    let (one, more) = rules_split from log steps others vs rule in
+    let small = plan-small plan (first-of PlanFits plan plans fits) in
+    subst (λ (l : List Version). Shown from log l block after) (sym (steps_joined steps others vs))
+    (freeze-shown from log (with_steps vs steps) block plans next after (rest-of PlanFits plan plans fits) more
+    (lines_frozen-shown from log vs block plan plan.lines items next small one shown first) rest)
+
 -- the same for steps that are equal to these
 along :
     (from : LogOrigin) (log : List Rec) (vs : List Version) (block : ℕ) (after : List Item) (steps others : List RowStep)
@@ -158,6 +260,18 @@ put-none :
     → version_put rec block image xmax line old ≡ version_written rec block xmax line old block.tuples
 unfolding version_put
 put-none rec block image xmax line old none = rw none refl
+
+removals-none :
+    (block : ℕ) (image : Option RecImage) (lines : List ℕ) (vs : List Version) → image ≡ None
+    → removals block image lines vs ≡ removals_written block lines
+unfolding removals
+removals-none block image lines vs none = rw none refl
+
+freezes-none :
+    (block : ℕ) (image : Option RecImage) (plans : List listed.FreezePlan) (vs : List Version) → image ≡ None
+    → freezes_in block image plans vs ≡ frozen_written block plans
+unfolding freezes_in
+freezes-none block image plans vs none = rw none refl
 
 module _ (from : LogOrigin) (log : List Rec) (vs : List Version) (rec : Rec) (block : RecBlock) (items after : List Item) (fits : All TupleFits block.tuples) (none : applied block.image ≡ None) (shown : Shown from log vs block.block items) where
   births-shown :
@@ -245,8 +359,24 @@ module _ (from : LogOrigin) (log : List Rec) (vs : List Version) (rec : Rec) (bl
   kind-shown (FullPageWrites on) f rule e = subst (Shown from log vs block.block) (cc) shown
   kind-shown Images f rule e = subst (Shown from log vs block.block) (cc) shown
   kind-shown (Overwrite given_up time) f rule e = subst (Shown from log vs block.block) (cc) shown
-  kind-shown (Ended time xinfo xids) f rule e = subst (Shown from log vs block.block) (cc) shown
+  kind-shown (Ended time xinfo xids files) f rule e = subst (Shown from log vs block.block) (cc) shown
   kind-shown (Running tops subs overflow next oldest latest xids) f rule e = subst (Shown from log vs block.block) (cc) shown
+  kind-shown (Prune horizon catalogue redirected died freed) f rule e =
+      along from log vs block.block after (removals block.block (applied block.image) (pruned_lines redirected died freed) vs)
+      (removals_written block.block (pruned_lines redirected died freed))
+      (removals-none block.block (applied block.image) (pruned_lines redirected died freed) vs none)
+      (λ r. prune-shown from log vs block.block redirected died freed items after shown e) rule
+  kind-shown (Vacuum freed) f rule e =
+      along from log vs block.block after (removals block.block (applied block.image) freed vs) (removals_written block.block freed)
+      (removals-none block.block (applied block.image) freed vs none)
+      (λ r. bare-shown from log vs block.block unused freed items after refl shown e) rule
+  kind-shown (Freeze horizon catalogue plans) f rule e =
+      along from log vs block.block after (freezes_in block.block (applied block.image) plans vs) (frozen_written block.block plans)
+      (freezes-none block.block (applied block.image) plans vs none)
+      (λ r. freeze-shown from log vs block.block plans items after f.1 r shown e) rule
+  kind-shown (Visible horizon flags) f rule e = subst (Shown from log vs block.block) (cc) shown
+  kind-shown (Truncate number locator flags) f rule e = subst (Shown from log vs block.block) (cc) shown
+  kind-shown (Locks entries) f rule e = subst (Shown from log vs block.block) (cc) shown
   kind-shown Other f rule e = subst (Shown from log vs block.block) (cc) shown
 
 -- After a change that is not refused a block shows the versions after the record's steps in it.

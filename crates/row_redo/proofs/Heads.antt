@@ -41,13 +41,22 @@ pub record Reads (head : Head) (rest tuple : List ℕ) : Type 0 where
   pub mask : infomask_of tuple ≡ head.mask
   pub end : drop 22 tuple ≡ head.hoff ∷ rest
 
+-- its masks are read back, whatever the other fields are
+pub mask2-reads : (head : Head) (rest : List ℕ) → head.mask2 < 2 ^ 16 → infomask2_of (head_bytes head ++ rest) ≡ head.mask2
+unfolding head_bytes number_at
+mask2-reads head rest small = little_number-reads_back 2 head.mask2 (drop 20 (head_bytes head ++ rest)) small
+
+pub mask-reads : (head : Head) (rest : List ℕ) → head.mask < 2 ^ 16 → infomask_of (head_bytes head ++ rest) ≡ head.mask
+unfolding head_bytes number_at
+mask-reads head rest small = little_number-reads_back 2 head.mask (drop 22 (head_bytes head ++ rest)) small
+
 pub head-reads : (head : Head) (rest : List ℕ) → HeadFits head → Reads head rest (head_bytes head ++ rest)
 unfolding head_bytes number_at
 head-reads head rest fits = record {
   xmin = little_number-reads_back 4 head.xmin (drop 4 (head_bytes head ++ rest)) fits.xmin;
   xmax = little_number-reads_back 4 head.xmax (drop 8 (head_bytes head ++ rest)) fits.xmax;
-  mask2 = little_number-reads_back 2 head.mask2 (drop 20 (head_bytes head ++ rest)) fits.mask2;
-  mask = little_number-reads_back 2 head.mask (drop 22 (head_bytes head ++ rest)) fits.mask;
+  mask2 = mask2-reads head rest fits.mask2;
+  mask = mask-reads head rest fits.mask;
   end = refl;
 }
 

@@ -1,11 +1,11 @@
 -- What a tuple shows after a log, it shows after one record more.
-use Rattle.std.proofs.Common.{◌≡◌, inl, inr, ℕ, true, false, not, ◌||◌, ◌==◌, List, [], ◌∷◌, Option, Some, None, refl, sym, ap, ◌∙◌}
-use Rattle.std.proofs.lemmas.Bool.{and_left, and_right, or_cases, or_left, or_right, or_from, both_ways, false_from_ne_true, false≢true}
+use Rattle.std.proofs.Common.{◌≡◌, ℕ, true, false, not, List, ◌∷◌, Option, Some, None, refl, sym, ap, ◌∙◌}
+use Rattle.std.proofs.lemmas.Bool.{and_left, and_right, or_right, or_from, both_ways, false_from_ne_true, false≢true}
 use Rattle.wal_bodies.specs.declared.types.Rec.{Rec}
 use Rattle.heap_tuple.specs.declared.tuple_view.MaxOf.{MaxOf}
 use Rattle.heap_tuple.specs.declared.tuple_view.MaxOf.TheVariants.{None as NoDeleter, Xid as DeletedBy, Multi}
 use Rattle.heap_page.specs.Item.{Item, numbered}
-use Rattle.transaction_model.specs.Transactions.{Kind, Commit, Abort, Assignment, Running, Shutdown, Online, Other, TransactionRecord, Statuses, commits, ends, committed, ended, Live}
+use Rattle.transaction_model.specs.Transactions.{Kind, Commit, Abort, Assignment, Running, Shutdown, Online, Other, TransactionRecord, commits, ends, committed, ended, Live}
 use Rattle.transaction_model.specs.LegalTransactions.{TransactionOrigin, RuleOf, Legal}
 use Rattle.transaction_model.proofs.Endings.{live_not_committed}
 use Rattle.xact_redo.specs.TransactionsOf.{transaction_of, transactions_of}

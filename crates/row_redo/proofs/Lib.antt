@@ -2,7 +2,9 @@ pub mod Along
 pub mod Apart
 pub mod Bits
 pub mod Changes
+pub mod Cuts
 pub mod Fitting
+pub mod Frozen
 pub mod Heads
 pub mod Later
 pub mod Marked

@@ -51,7 +51,7 @@ is-marked xmin xmax bits tuple after bytes rule low high m =
     }
 
 -- the deleter that a mark shows is the one that its record says
-max-by : (lock lock2 multi multi2 : Bool) (xmax xmax2 : ℕ) → lock ≡ lock2 → multi ≡ multi2 → xmax ≡ xmax2
+pub max-by : (lock lock2 multi multi2 : Bool) (xmax xmax2 : ℕ) → lock ≡ lock2 → multi ≡ multi2 → xmax ≡ xmax2
     → (if lock || (xmax == 0) then NoDeleter else if multi then Multi xmax else DeletedBy (record { 0 = xmax }))
     ≡ (if lock2 || (xmax2 == 0) then NoDeleter else if multi2 then Multi xmax2 else DeletedBy (record { 0 = xmax2 }))
 max-by lock lock2 multi multi2 xmax xmax2 a b c = rw (a, b, c) refl

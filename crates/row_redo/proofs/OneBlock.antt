@@ -8,7 +8,7 @@ use Rattle.wal_bodies.specs.declared.types.RecImage.{RecImage}
 use Rattle.wal_bodies.specs.declared.types.RecBlock.{RecBlock}
 use Rattle.wal_bodies.specs.declared.types.Rec.{Rec}
 use Rattle.wal_bodies.specs.declared.types.RecKind.{RecKind}
-use Rattle.wal_bodies.specs.declared.types.RecKind.TheVariants.{Checkpoint, BackupEnd, Parameters, FullPageWrites, Images, Overwrite, Ended, Running, Insert, Delete, Update, Confirm, Lock, MultiInsert, LockUpdated, Other}
+use Rattle.wal_bodies.specs.declared.types.RecKind.TheVariants.{Checkpoint, BackupEnd, Parameters, FullPageWrites, Images, Overwrite, Ended, Running, Insert, Delete, Update, Confirm, Lock, MultiInsert, LockUpdated, Prune, Vacuum, Freeze, Visible, Truncate, Locks, Other}
 use Rattle.heap_redo.specs.After.{BlockRefusal, no_page, bad_page, Content, page, page_of_image, after_restore, applied, is_images, made_anew, paged, changed, changed_page, after_change, after_image, after}
 use Rattle.page_store.specs.Seen.{Seen, absent, bad_block, seen_page}
 use Rattle.heap_redo.specs.Redone.{content_of, stamped, is_anew, is_left, has_reached, left_by, redone_block}
@@ -33,7 +33,7 @@ not_reached end absent behind = refl
 not_reached end bad_block behind = refl
 not_reached end (seen_page lsn items) behind = lt-leb end lsn behind
 
--- a record of images makes no steps of its own
+-- a record of images, or of visibility, makes no steps of its own
 own_none : (rec : Rec) (block : RecBlock) (kind : RecKind) (vs : List Version) → is_images kind ≡ true → own_steps rec block kind vs ≡ []
 unfolding own_steps
 own_none rec block Images vs h = refl
@@ -42,7 +42,7 @@ own_none rec block (BackupEnd start) vs h = absurd (false≢true h)
 own_none rec block (Parameters connections processes senders prepared locks level) vs h = absurd (false≢true h)
 own_none rec block (FullPageWrites on) vs h = absurd (false≢true h)
 own_none rec block (Overwrite given_up time) vs h = absurd (false≢true h)
-own_none rec block (Ended time xinfo xids) vs h = absurd (false≢true h)
+own_none rec block (Ended time xinfo xids files) vs h = absurd (false≢true h)
 own_none rec block (Running tops subs overflow next oldest latest xids) vs h = absurd (false≢true h)
 own_none rec block (Insert line flags) vs h = absurd (false≢true h)
 own_none rec block (Delete xmax line bits flags) vs h = absurd (false≢true h)
@@ -51,6 +51,12 @@ own_none rec block (Confirm line) vs h = absurd (false≢true h)
 own_none rec block (Lock xmax line bits flags) vs h = absurd (false≢true h)
 own_none rec block (MultiInsert flags lines) vs h = absurd (false≢true h)
 own_none rec block (LockUpdated xmax line bits flags) vs h = absurd (false≢true h)
+own_none rec block (Prune horizon catalogue redirected died freed) vs h = absurd (false≢true h)
+own_none rec block (Vacuum freed) vs h = absurd (false≢true h)
+own_none rec block (Freeze horizon catalogue plans) vs h = absurd (false≢true h)
+own_none rec block (Visible horizon flags) vs h = refl
+own_none rec block (Truncate number locator flags) vs h = absurd (false≢true h)
+own_none rec block (Locks entries) vs h = absurd (false≢true h)
 own_none rec block Other vs h = absurd (false≢true h)
 
 -- no image is restored: the steps are the record's own

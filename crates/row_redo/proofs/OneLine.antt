@@ -1,14 +1,14 @@
 -- A change of one line of a page, where it is not refused.
-use Rattle.std.proofs.Common.{◌≡◌, ◌≢◌, ℕ, zero, suc, ◌-◌, ◌<◌, Bool, true, false, not, nat_lt, List, [], ◌∷◌, Result, Ok, Err, refl, sym, ap, subst, ◌∙◌, arith, if◌then◌else◌}
+use Rattle.std.proofs.Common.{◌≡◌, ◌≢◌, ℕ, zero, suc, ◌-◌, ◌<◌, Bool, true, false, not, nat_lt, List, Result, Ok, Err, refl, sym, ap, subst, ◌∙◌, arith, if◌then◌else◌}
 use Rattle.std.proofs.lemmas.Bool.Decides.{nat_tests}
 use Rattle.heap_tuple.specs.Tuple.{is_tuple, IsTuple}
-use Rattle.heap_page.specs.Item.{Item, unused, normal, redirect, dead, before_trimmed, trimmed, with_line, with_item, item_in, is_normal, numbered, tuple_in}
+use Rattle.heap_page.specs.Item.{Item, unused, normal, redirect, dead, trimmed, with_line, with_item, is_normal, is_unused, numbered, tuple_in}
 use Rattle.heap_page.proofs.LineLists.{item_in-trimmed, item_in-with_line_same, item_in-with_line_other}
-use Rattle.heap_page.specs.Put.{is_free, size_with, put_answer, with_head, set_head_answer}
+use Rattle.heap_page.specs.Put.{is_free, size_with, put_answer, with_head, set_head_answer, set_line_answer}
 use Rattle.heap_page.specs.declared.line.PageError.{PageError}
 use Rattle.heap_page.specs.declared.line.PageError.TheVariants.{Full, NoLine, BadPage}
 use Rattle.heap_redo.specs.TupleHeads.{Head, head_of, head_bytes}
-use Rattle.heap_redo.specs.After.{answered, put, change_head}
+use Rattle.heap_redo.specs.After.{answered, put, change_head, set_line}
 
 -- one line of the items became this one, and the others are as they were
 pub record OneLine (line : ℕ) (item : Item) (items after : List Item) : Type 0 where
@@ -102,3 +102,20 @@ change-tests line f items after (normal tuple) was e =
 pub change-done : (line : ℕ) (f : Head → Head) (items after : List Item) → change_head line f items ≡ Ok after → IsChanged line f items after
 unfolding change_head set_head_answer
 change-done line f items after e = change-tests line f items after (numbered items line) refl e
+
+set-tests :
+    (line : ℕ) (items after : List Item) (free : Bool) → answered line items (if free then Err NoLine else Ok tt) ≡ Ok after
+    → (free ≡ false) × (items ≡ after)
+set-tests line items after true e = absurd (cc)
+set-tests line items after false e = (refl, cc)
+
+-- a line that is in use became this one
+pub set-done : (line : ℕ) (item : Item) (items after : List Item) → set_line line item items ≡ Ok after → OneLine line item items after
+unfolding set_line set_line_answer
+set-done line item items after e =
+    let (used, same) = set-tests line (with_item items (line - 1) item) after (is_unused (numbered items line)) e in
+    subst (OneLine line item items) same (one-line line item items (positive line used))
+  where
+    positive : (n : ℕ) → is_unused (numbered items n) ≡ false → 0 < n
+    positive zero h = absurd (cc)
+    positive (suc n) h = omega arith

@@ -7,19 +7,22 @@ use Rattle.tuple_visibility.specs.Visible.{xmin_marks}
 use Rattle.wal_bodies.specs.declared.types.Rec.{Rec}
 use Rattle.row_model.specs.Origins.{LogOrigin}
 use Rattle.pg_types.specs.Numbers.{has_bits}
-use Rattle.heap_redo.specs.TupleHeads.{Head, head_of, pointing_to, deleted}
-use Rattle.heap_redo.specs.After.{put, change_head}
-use Rattle.row_model.specs.Versions.{Version, Always, By, Born, Deleter, Undone, is_frozen, taken_back, version_at, version_born, changed_at, with_deleter, with_step}
+use Rattle.heap_redo.specs.TupleHeads.{Head, head_of, pointing_to, deleted, frozen}
+use Rattle.heap_redo.specs.After.{put, change_head, set_line}
+use Rattle.row_model.specs.Versions.{Version, Always, By, FreezePlan, Born, Deleter, Undone, Removed, Frozen, frozen_by, is_frozen, removed, taken_back, version_at, version_born, changed_at, with_deleter, with_step}
 use Rattle.row_model.specs.RowSteps.{deleter_of_mark}
 use Rattle.row_model.specs.Shows.{ShowsInserter, ShowsDeleter, Shows, ShowsPlace, ShowsBlock}
-use Rattle.row_model.specs.LegalSteps.{BirthMarks, BirthRule, BornFrozen, IsSpent, Unmarked}
+use Rattle.row_model.specs.LegalSteps.{BirthMarks, BirthRule, BornFrozen, IfVersion, IsSpent, PlanRule, Unmarked}
 use Rattle.row_redo.proofs.Rules.{StepRule}
 use Rattle.pg_types.specs.declared.names.Locator.{Locator}
 use Rattle.pg_types.specs.Bytes.{AreBytes}
 use Rattle.row_redo.proofs.Fitting.{TuplesFit}
 use Rattle.row_redo.proofs.Heads.{Marks, marks-undone, head-fits}
 use Rattle.row_redo.proofs.Marked.{is-marked, shows-deleter, shows-undone, is-pointed, shows-pointed}
-use Rattle.row_redo.proofs.OneLine.{OneLine, put-done, changed_tuple, change-done}
+use Rattle.row_redo.proofs.Apart.{if_version}
+use Rattle.row_redo.proofs.Frozen.{PlanSmall, is-frozen, shows-frozen}
+use Rattle.row_redo.proofs.OneLine.{OneLine, put-done, changed_tuple, change-done, set-done}
+use Rattle.row_redo.proofs.Places.{removed_beside, removed_here}
 use Rattle.row_redo.proofs.StepPlaces.{born-here, born-other, changed-here, changed-other}
 
 same-tuple : (a b : List ℕ) → normal a ≡ normal b → a ≡ b
@@ -32,6 +35,16 @@ fit-after :
 fit-after items after line new fit one bytes rule place tuple is =
     elim (cases_eq place line) [
       | inl e ↦ subst (λ (t : List ℕ). AreBytes t × IsTuple t) (same-tuple new tuple (sym (ap (numbered after) e ∙ one.here) ∙ is)) (bytes, rule)
+      | inr n ↦ fit place tuple (sym (one.others place n) ∙ is)
+    ]
+
+-- and after one line became another that shows none
+fit-bare :
+    (items after : List Item) (line : ℕ) (item : Item) → TuplesFit items → OneLine line item items after → is_normal item ≡ false
+    → TuplesFit after
+fit-bare items after line item fit one bare place tuple is =
+    elim (cases_eq place line) [
+      | inl e ↦ absurd (false≢true (sym bare ∙ ap is_normal (sym one.here ∙ ap (numbered after) (sym e) ∙ is)))
       | inr n ↦ fit place tuple (sym (one.others place n) ∙ is)
     ]
 
@@ -195,4 +208,40 @@ pointed-shown from log vs block line to items after fit shows e =
     (λ v tuple at bytes rule shown.
     let m = is-pointed to line tuple bytes rule in
     (shows-pointed from log v tuple (changed_tuple (λ head. pointing_to to line head) tuple) shown m, m.bytes))
+    fit shows e
+
+-- a line becomes another that shows no tuple, and its version loses its place
+pub removed-shown :
+    (from : LogOrigin) (log : List Rec) (vs : List Version) (block line : ℕ) (item : Item) (items after : List Item)
+    → is_normal item ≡ false → TuplesFit items → ShowsBlock from log vs block items → set_line line item items ≡ Ok after
+    → ShowsBlock from log (with_step vs (Removed block line)) block after × TuplesFit after
+unfolding with_step
+removed-shown from log vs block line item items after bare fit shows e =
+    let done = set-done line item items after e in
+    let here : ShowsPlace from log (version_at block line (changed_at block line removed vs)) item =
+    subst (λ (o : Option Version). ShowsPlace from log o item) (sym (removed_here block line vs)) bare in (
+      shows-after from log vs (changed_at block line removed vs) block line item items after shows done here
+          (λ place n. removed_beside block line place vs (λ same. n (sym same))),
+      fit-bare items after line item fit done bare,
+    )
+
+-- a tuple is frozen, and its version with it
+pub frozen-shown :
+    (from : LogOrigin) (log : List Rec) (vs : List Version) (block line horizon : ℕ) (plan : FreezePlan) (items after : List Item)
+    → PlanSmall plan → IfVersion (version_at block line vs) (PlanRule from log horizon plan) → TuplesFit items
+    → ShowsBlock from log vs block items
+    → change_head line (λ head. frozen plan.xmax plan.mask2 plan.mask head) items ≡ Ok after
+    → ShowsBlock from log (with_step vs (Frozen block line plan)) block after × TuplesFit after
+unfolding with_step
+frozen-shown from log vs block line horizon plan items after small plan_rule fit shows e =
+    let f = λ (head : Head). frozen plan.xmax plan.mask2 plan.mask head in
+    head-shown from log vs (changed_at block line (frozen_by plan) vs) block line f (frozen_by plan) items after
+    (changed-here block line (frozen_by plan) (λ place v. refl) vs)
+    (λ place n. changed-other block line (frozen_by plan) (λ p v. refl) place vs n)
+    (λ v tuple at bytes rule shown.
+    let m = is-frozen plan tuple small bytes rule in (
+      shows-frozen from log horizon plan v tuple (changed_tuple f tuple) small shown
+          (if_version (version_at block line vs) (PlanRule from log horizon plan) v at plan_rule) m,
+      m.bytes,
+    ))
     fit shows e

@@ -1,16 +1,17 @@
 -- The steps of a record in one of its blocks are made in that block.
-use Rattle.std.proofs.Common.{ℕ, ◌+◌, Bool, true, false, not, ◌&&◌, ◌==◌, cond, nat_le, List, [], ◌∷◌, Option, Some, None, refl}
+use Rattle.std.proofs.Common.{ℕ, ◌+◌, Bool, true, false, not, ◌&&◌, ◌==◌, cond, nat_le, List, [], ◌∷◌, map, Option, Some, None, refl}
 use Rattle.wal_bodies.specs.declared.types.RecImage.{RecImage}
 use Rattle.wal_bodies.specs.declared.types.NewTuple.{NewTuple}
 use Rattle.wal_bodies.specs.declared.types.RecBlock.{RecBlock}
 use Rattle.wal_bodies.specs.declared.types.Rec.{Rec}
 use Rattle.wal_bodies.specs.declared.types.RecKind.{RecKind}
-use Rattle.wal_bodies.specs.declared.types.RecKind.TheVariants.{Checkpoint, BackupEnd, Parameters, FullPageWrites, Images, Overwrite, Ended, Running, Insert, Delete, Update, Confirm, Lock, MultiInsert, LockUpdated, Other}
+use Rattle.wal_bodies.specs.declared.types.RecKind.TheVariants.{Checkpoint, BackupEnd, Parameters, FullPageWrites, Images, Overwrite, Ended, Running, Insert, Delete, Update, Confirm, Lock, MultiInsert, LockUpdated, Prune, Vacuum, Freeze, Visible, Truncate, Locks, Other}
 use Rattle.pg_types.specs.Numbers.{has_bits}
 use Rattle.heap_redo.specs.After.{applied, number_of}
-use Rattle.heap_page.specs.Item.{Item, unused, normal, redirect, dead}
-use Rattle.row_model.specs.Versions.{Version, RowStep, Deleter, Undone, version_at}
-use Rattle.row_model.specs.RowSteps.{deleter_of_mark, items_in, births_written, births_shown, births, version_written, version_put, values_of, update_steps, own_steps, puts_tuples, births_of_items, whole_steps, block_steps}
+use Rattle.heap_page.specs.Item.{Item, unused, normal, redirect, dead, is_normal, numbered, tuple_in}
+use Rattle.record_fields.specs.declared.entries.FreezePlan as listed
+use Rattle.row_model.specs.Versions.{Version, FreezePlan, RowStep, Deleter, Undone, Removed, Frozen, version_at}
+use Rattle.row_model.specs.RowSteps.{deleter_of_mark, items_in, births_written, births_shown, births, version_written, version_put, values_of, update_steps, removals_written, removals_shown, removals, plan_of, plan_shown, frozen_written, frozen_shown, freezes_in, pruned_lines, own_steps, puts_tuples, births_of_items, whole_steps, block_steps}
 use Rattle.row_redo.proofs.Places.{AllIn, all_joined}
 
 -- one of two lists of steps
@@ -61,6 +62,51 @@ update_in rec block old_xmax old_line old_bits new_xmax new_line (Some new_block
     (refl, put_in rec block (applied block.image) new_xmax new_line (values_of (version_at block.block old_line vs)))
 update_in rec block old_xmax old_line old_bits new_xmax new_line None old_block vs = tt
 
+-- the removals and the freezing, as the record says it or its image shows it
+removed_in : (block : ℕ) (lines : List ℕ) → AllIn block (removals_written block lines)
+unfolding removals_written
+removed_in block [] = tt
+removed_in block (line ∷ lines) = (refl, removed_in block lines)
+
+removed_shown_in : (block : ℕ) (items : List Item) (vs : List Version) → AllIn block (removals_shown block items vs)
+unfolding removals_shown
+removed_shown_in block items [] = tt
+removed_shown_in block items (v ∷ vs) =
+    let here : List RowStep = Removed block v.line ∷ [] in
+    let t : Bool = v.holds && (v.block == block) && not (is_normal (numbered items v.line)) in
+    all_joined block (cond t here []) (removals_shown block items vs) (either_in block t here [] (refl, tt) tt)
+    (removed_shown_in block items vs)
+
+removals_in : (block : ℕ) (image : Option RecImage) (lines : List ℕ) (vs : List Version) → AllIn block (removals block image lines vs)
+unfolding removals
+removals_in block None lines vs = removed_in block lines
+removals_in block (Some image) lines vs = removed_shown_in block (items_in image) vs
+
+plan_in : (block : ℕ) (plan : FreezePlan) (lines : List ℕ) → AllIn block (map (λ line. Frozen block line plan) lines)
+plan_in block plan [] = tt
+plan_in block plan (line ∷ lines) = (refl, plan_in block plan lines)
+
+plans_in : (block : ℕ) (plans : List listed.FreezePlan) → AllIn block (frozen_written block plans)
+unfolding frozen_written
+plans_in block [] = tt
+plans_in block (plan ∷ plans) =
+    all_joined block (map (λ line. Frozen block line (plan_of plan)) plan.lines) (frozen_written block plans)
+    (plan_in block (plan_of plan) plan.lines) (plans_in block plans)
+
+frozen_shown_in : (block : ℕ) (items : List Item) (vs : List Version) → AllIn block (frozen_shown block items vs)
+unfolding frozen_shown
+frozen_shown_in block items [] = tt
+frozen_shown_in block items (v ∷ vs) =
+    let here : List RowStep = Frozen block v.line (plan_shown (tuple_in (numbered items v.line))) ∷ [] in
+    let t : Bool = v.holds && (v.block == block) in
+    all_joined block (cond t here []) (frozen_shown block items vs) (either_in block t here [] (refl, tt) tt)
+    (frozen_shown_in block items vs)
+
+freezes_in_block : (block : ℕ) (image : Option RecImage) (plans : List listed.FreezePlan) (vs : List Version) → AllIn block (freezes_in block image plans vs)
+unfolding freezes_in
+freezes_in_block block None plans vs = plans_in block plans
+freezes_in_block block (Some image) plans vs = frozen_shown_in block (items_in image) vs
+
 pub own_in : (rec : Rec) (block : RecBlock) (kind : RecKind) (vs : List Version) → AllIn block.block (own_steps rec block kind vs)
 unfolding own_steps
 own_in rec block (Insert line flags) vs = births_in rec block (applied block.image) (line ∷ [])
@@ -78,9 +124,16 @@ own_in rec block (Parameters connections processes senders prepared locks level)
 own_in rec block (FullPageWrites on) vs = tt
 own_in rec block Images vs = tt
 own_in rec block (Overwrite given_up time) vs = tt
-own_in rec block (Ended time xinfo xids) vs = tt
+own_in rec block (Ended time xinfo xids files) vs = tt
 own_in rec block (Running tops subs overflow next oldest latest xids) vs = tt
 own_in rec block (Confirm line) vs = tt
+own_in rec block (Prune horizon catalogue redirected died freed) vs =
+    removals_in block.block (applied block.image) (pruned_lines redirected died freed) vs
+own_in rec block (Vacuum freed) vs = removals_in block.block (applied block.image) freed vs
+own_in rec block (Freeze horizon catalogue plans) vs = freezes_in_block block.block (applied block.image) plans vs
+own_in rec block (Visible horizon flags) vs = tt
+own_in rec block (Truncate number locator flags) vs = tt
+own_in rec block (Locks entries) vs = tt
 own_in rec block Other vs = tt
 
 -- the births of a page's items

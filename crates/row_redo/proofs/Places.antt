@@ -126,6 +126,22 @@ at_removed b l block line (v ∷ vs) =
     removed_first b l block line v (changed_at b l removed vs) vs (is_at b l v) (is_at block line v) refl refl
     (at_removed b l block line vs)
 
+-- none stands there any more
+pub removed_here : (block line : ℕ) (vs : List Version) → version_at block line (changed_at block line removed vs) ≡ None
+removed_here block line vs =
+    at_removed block line block line vs ∙ dropped_there block line (version_at block line vs) (found_there block line vs)
+
+-- what stands at another line is still there
+kept_beside : (block line place : ℕ) (x : Option Version) → (line ≡ place → ⊥) → ((v : Version) → x ≡ Some v → is_at block place v ≡ true) → dropped block line x ≡ x
+kept_beside block line place None other there = refl
+kept_beside block line place (Some v) other there =
+    ap (λ (t : Bool). cond t None (Some v))
+    (false_from_ne_true (is_at block line v) (λ here. other (one_place block line block place v here (there v refl)).1))
+
+pub removed_beside : (block line place : ℕ) (vs : List Version) → (line ≡ place → ⊥) → version_at block place (changed_at block line removed vs) ≡ version_at block place vs
+removed_beside block line place vs other =
+    at_removed block line block place vs ∙ kept_beside block line place (version_at block place vs) other (found_there block place vs)
+
 removed_same : (b l block : ℕ) (vs ws : List Version) → SameIn block vs ws → SameIn block (changed_at b l removed vs) (changed_at b l removed ws)
 removed_same b l block vs ws same line =
     at_removed b l block line vs ∙ ap (dropped b l) (same line) ∙ sym (at_removed b l block line ws)

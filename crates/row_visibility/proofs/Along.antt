@@ -54,7 +54,7 @@ leads_along o (r ∷ older) legal =
 
 -- no record assigns a subtransaction
 no_assignment : (head : RecordHead) (kind : RecKind) → is_assignment (kind_of head kind) ≡ false
-no_assignment head (Ended time xinfo xids) =
+no_assignment head (Ended time xinfo xids files) =
     cond_both (is_commit head) (Commit (numbers xids)) (Abort (numbers xids))
     (λ (kind : Kind). is_assignment kind ≡ false) (λ e. refl) (λ e. refl)
 no_assignment head (Checkpoint redo timeline previous writes next multi member oldest active) =

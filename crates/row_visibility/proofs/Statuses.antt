@@ -1,6 +1,6 @@
 -- The commit log along a legal log: whose status says ended, and whose committed.
 use Rattle.std.proofs.Common.{◌≡◌, ℕ, ◌≤◌, Bool, true, false, ◌==◌, ◌||◌, ◌&&◌, cond, List, [], ◌∷◌, arith, refl, sym, ap, ◌∙◌, inl, inr, nat_le}
-use Rattle.std.proofs.lemmas.Bool.{or_cases, or_left, or_right, or_from, cond_both, cond-true, cond-false, cases_Bool, false_from_ne_true, both_ways, le-leb, and_right, false≢true}
+use Rattle.std.proofs.lemmas.Bool.{or_left, or_right, or_from, cond_both, cond-true, cond-false, cases_Bool, false_from_ne_true, le-leb, and_right, false≢true}
 use Rattle.std.specs.List.{list_any}
 use Rattle.pg_types.specs.declared.names.Xid.{Xid}
 use Rattle.pg_types.specs.declared.status.Status.{Status}
@@ -13,8 +13,8 @@ use Rattle.commit_log.specs.Log.{initial_status, is_named, status_after}
 use Rattle.known_assigned.specs.Ids.{is_among, numbers}
 use Rattle.tuple_visibility.specs.Visible.{is_committed}
 use Rattle.xact_redo.specs.State.{before_records, has_ended, outcome_of, state_after, statuses_after}
-use Rattle.transaction_model.specs.Transactions.{Kind, Commit, Abort, Shutdown, Online, TransactionRecord, Statuses, commits, finishes, ends, committed, finished, ended, Live}
-use Rattle.transaction_model.specs.LegalTransactions.{Legal, NamesLive, TransactionOrigin, TransactionOriginRule, RuleOf}
+use Rattle.transaction_model.specs.Transactions.{Kind, Commit, Abort, Shutdown, Online, TransactionRecord, Statuses, commits, finishes, ends, committed, finished, ended}
+use Rattle.transaction_model.specs.LegalTransactions.{Legal, NamesLive, TransactionOrigin, RuleOf}
 use Rattle.transaction_model.specs.StandbyStates.{shown}
 use Rattle.transaction_model.specs.TransactionLaws.{IsCaughtUp, ShowsFinished}
 use Rattle.transaction_model.proofs.Endings.{legal_rest, live_not_committed, origin_rule, rule_of}
@@ -105,7 +105,7 @@ ended_after :
     (o : TransactionOrigin) (head : RecordHead) (kind : RecKind) (before : ℕ → Status) (older now : List TransactionRecord)
     → RuleOf o head.xid.0 (kind_of head kind) older now → (x : ℕ)
     → has_ended (statuses_after head kind before x) ≡ (finishes x head.xid.0 (kind_of head kind) || has_ended (before x))
-ended_after o head (Ended time xinfo xids) before older now rule x =
+ended_after o head (Ended time xinfo xids files) before older now rule x =
     test_is has_ended before (head.xid ∷ xids) (outcome_of head) x
     (λ y h. (ending_names o head.xid.0 (numbers xids) older now (is_commit head) rule y h).normal)
     ∙ ended_now head.xid.0 (numbers xids) (is_commit head) (has_ended (before x)) x
@@ -118,7 +118,7 @@ committed_after :
     → RuleOf o head.xid.0 (kind_of head kind) older now → (x : ℕ) → is_committed (before x) ≡ committed o.at x older
     → is_committed (statuses_after head kind before x)
     ≡ (commits x head.xid.0 (kind_of head kind) || is_committed (before x))
-committed_after o head (Ended time xinfo xids) before older now rule x same =
+committed_after o head (Ended time xinfo xids files) before older now rule x same =
     let names = ending_names o head.xid.0 (numbers xids) older now (is_commit head) rule in
     test_is is_committed before (head.xid ∷ xids) (outcome_of head) x (λ y h. (names y h).normal)
     ∙ committed_now head.xid.0 (numbers xids) (is_commit head) (is_committed (before x)) x

@@ -21,7 +21,7 @@ use std::{fs, io};
 const SEGMENT_FILE: &str = "000000010000000000000002";
 
 /// The files with the segment's first bytes.
-const CASES: [&str; 71] = [
+const CASES: [&str; 103] = [
     "plain",
     "empty_table",
     "first_header_unread",
@@ -93,6 +93,38 @@ const CASES: [&str; 71] = [
     "cut_in_record",
     "switch",
     "overwritten",
+    "prune_redirect",
+    "prune_no_lines",
+    "prune_aborted",
+    "prune_beside_image",
+    "vacuum",
+    "vacuum_of_all",
+    "freeze",
+    "freeze_of_a_locked_row",
+    "visible",
+    "visible_image",
+    "lock_row",
+    "truncate",
+    "truncate_to_none",
+    "truncate_to_as_many",
+    "truncate_of_another_table",
+    "truncated_and_grown",
+    "drop",
+    "drop_of_two",
+    "drop_of_another_table",
+    "drop_aborted",
+    "prune_of_an_unused_line",
+    "prune_to_an_unused_line",
+    "vacuum_of_an_unused_line",
+    "freeze_of_a_dead_line",
+    "freeze_of_nine_columns",
+    "freeze_short",
+    "prune_of_a_block_past_the_end",
+    "insert_behind_a_truncation",
+    "insert_behind_a_drop",
+    "insert_behind_no_prune",
+    "insert_behind_a_prune",
+    "refilled",
 ];
 
 /// Logs over several segments, and the numbers of the segments whose files are there.

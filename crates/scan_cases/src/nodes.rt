@@ -7,8 +7,8 @@ use case_text::{Answer, Wrong, bytes, input, number_u64, parts, position, words}
 use known_assigned::State;
 use outside::{Archive, MemoryArchive, SteadyArchive};
 use page_store::Pool;
-use pg_types::{Lsn, Status, Xid};
-use standby_core::{Node, NodeFault, NodeStatus, Origin, Refusal, Replayed};
+use pg_types::{Lsn, NoMemory, Status, Xid};
+use standby_core::{Node, NodeFault, NodeStatus, Opened, Origin, Refusal, Replayed};
 use std::alloc::Global;
 use std::io;
 use table_schema::read_schema;
@@ -33,7 +33,7 @@ pub fn answer_all(rt: &HostRuntime) -> io::Result<()> {
     Ok(())
 }
 
-/// `NAME: redo POSITION`, then `failing CALL` or not, then `replay`, `status` .. and last `parts XID` or not.
+/// `NAME: redo POSITION`, then `failing CALL` or not, then `replay`, `open`, `status` .. and last `parts XID` or not.
 fn answer(alloc: Global, line: &str) -> Result<String, Wrong> {
     let (asked, hex) = parts(line);
     let asked = words(alloc, asked)?;
@@ -80,6 +80,7 @@ fn run<A: Archive>(
     for word in asked {
         match *word {
             "replay" => show_replayed(answer, node.replay_one(archive)),
+            "open" => show_opened(answer, node.open_scan("t")),
             "status" => show_status(answer, node.status()),
             _ => break,
         }
@@ -94,9 +95,16 @@ fn run<A: Archive>(
 
 fn show_replayed(answer: &mut Answer, replayed: Result<Replayed, NodeFault>) {
     match replayed {
-        Ok(Replayed::Applied { start, at }) => {
+        Ok(
+            Replayed::Applied {
+                start,
+                at,
+                cancelled,
+            },
+        ) => {
             answer.position(" applied ", start);
             answer.position(" ", at);
+            answer.field(" cancelled ", u64::from(cancelled));
         }
         Ok(Replayed::AtEnd { lsn, why }) => {
             answer.position(" end ", lsn);
@@ -108,6 +116,15 @@ fn show_replayed(answer: &mut Answer, replayed: Result<Replayed, NodeFault>) {
         }
         Err(NodeFault::Archive) => answer.say(" archive failed"),
         Err(NodeFault::Memory) => answer.say(" out of memory"),
+    }
+    answer.say(",");
+}
+
+fn show_opened(answer: &mut Answer, opened: Result<Opened, NoMemory>) {
+    match opened {
+        Ok(Opened::Scan { id, .. }) => answer.field(" opened ", id),
+        Ok(_) => answer.say(" not opened"),
+        Err(NoMemory) => answer.say(" out of memory"),
     }
     answer.say(",");
 }

@@ -7,7 +7,7 @@ use std::alloc::AllocError;
 use std::{fs, io};
 
 /// The files with the sessions.
-const CASES: [&str; 23] = [
+const CASES: [&str; 25] = [
     "line_by_line",
     "empty_source",
     "status",
@@ -31,6 +31,8 @@ const CASES: [&str; 23] = [
     "bad_row",
     "wrong_checksum",
     "twice",
+    "cancelled",
+    "locked_by_oid",
 ];
 
 /// A session: what it replays, and the bytes of its source.

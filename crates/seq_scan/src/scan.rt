@@ -7,7 +7,7 @@ use crate::block::read_block;
 use crate::print::print_block;
 use crate::rows::{BlockEnd, Rows};
 use page_store::Pool;
-use pg_types::{Lsn, NoMemory, Place, Tag};
+use pg_types::{Lsn, NoMemory, Place, Tag, Xid};
 use standby_snapshot::Snapshot;
 use std::alloc::Global;
 use std::marker::Model;
@@ -87,6 +87,13 @@ impl Scan {
         ensures { result ≡ self.now.table }
     {
         self.table
+    }
+
+    /// The least id that counts as in progress for its snapshot.
+    pub fn xmin(&self) -> Xid
+        ensures { result.0 ≡ self.now.snapshot.xmin }
+    {
+        self.snapshot.xmin
     }
 
     /// Gives the rows of the next block. It changes nothing of the pool's content.

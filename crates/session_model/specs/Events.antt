@@ -4,6 +4,7 @@ use Rattle.known_assigned.specs.declared.state.State.{State}
 use Rattle.wal_reader.specs.declared.types.EndWhy.{EndWhy}
 use Rattle.table_schema.specs.Description.{DescribedTable}
 use Rattle.seq_scan.specs.BlockRows.{BlockEnd, BlockRows, Whole, ToastedAt, BadAt, UnknownAt, NoPage}
+use Rattle.recovery_conflict.specs.declared.locks.Cause.{Cause}
 use Rattle.standby_core.specs.declared.types.Refusal.{Refusal}
 
 -- the status is asked for; one record is replayed; a scan of the table with this name is opened; the open scan with this id
@@ -27,7 +28,8 @@ pub record Status : Type 0 where
 -- the standby stands so; a record was applied, and the standby stands at its end; the log ends here, by this rule; the
 -- record here is refused; a scan with this id is open, over the rows that were committed at this position; the table is
 -- not described; too many scans are or were open; scans are not admitted; the rows of a block of a scan, and whether there
--- are more blocks; a scan was closed; no such scan is open
+-- are more blocks; a scan was closed; no such scan is open; the record that starts here dropped the table's file; this
+-- transaction holds a lock of the table, which the record that starts here told; a scan was cancelled, and is taken away
 pub data Reply : Type 0 where
   Stands : Status → Reply
   Applied : (at : ℕ) → Reply
@@ -40,6 +42,9 @@ pub data Reply : Type 0 where
   Page : (id : ℕ) → DescribedTable → (block : ℕ) → (more : Bool) → BlockRows → Reply
   Closed : (id : ℕ) → Reply
   NoScan : Reply
+  Gone : (lsn : ℕ) → Reply
+  Locked : (lsn xid : ℕ) → Reply
+  Cancelled : (id : ℕ) → Cause → Reply
 
 -- a record was applied
 abbrev pub is_applied : Reply → Bool
@@ -54,6 +59,9 @@ is_applied (NotAdmitted status) = false
 is_applied (Page id table block more page) = false
 is_applied (Closed id) = false
 is_applied NoScan = false
+is_applied (Gone lsn) = false
+is_applied (Locked lsn xid) = false
+is_applied (Cancelled id cause) = false
 
 -- the rows end at what is damaged
 abbrev pub is_damage : BlockEnd → Bool
@@ -76,3 +84,6 @@ is_trouble TooMany = false
 is_trouble (NotAdmitted status) = false
 is_trouble (Closed id) = false
 is_trouble NoScan = false
+is_trouble (Gone lsn) = false
+is_trouble (Locked lsn xid) = false
+is_trouble (Cancelled id cause) = false

@@ -7,7 +7,7 @@ use Rattle.wal_reader.specs.declared.types.EndWhy.{EndWhy}
 use Rattle.seq_scan.specs.BlockRows.{BlockEnd, Whole, ToastedAt, BadAt, UnknownAt, NoPage}
 use Rattle.standby_core.specs.declared.types.Refusal.{Refusal}
 use Rattle.standby_core.specs.Scans.{is_whole}
-use Rattle.session_model.specs.Events.{ReplayOne, Open, Next, Reply, Stands, Applied, AtEnd, Refused, Opened, NoTable, TooMany, NotAdmitted, Page, Closed, NoScan, is_applied}
+use Rattle.session_model.specs.Events.{ReplayOne, Open, Next, Reply, Stands, Applied, AtEnd, Refused, Opened, NoTable, TooMany, NotAdmitted, Page, Closed, NoScan, Gone, Locked, Cancelled, is_applied}
 use Rattle.session_model.specs.Answers.{Applies, Steps}
 use Rattle.session_model.specs.Texts.{line, refusal_text, reply_text}
 
@@ -32,6 +32,9 @@ is_more TooMany = false
 is_more (NotAdmitted status) = false
 is_more (Closed id) = false
 is_more NoScan = false
+is_more (Gone lsn) = false
+is_more (Locked lsn xid) = false
+is_more (Cancelled id cause) = false
 
 -- the exit status of a scan by how its last page ends: a row that is refused is no failure of the log, damage is
 abbrev pub end_status : BlockEnd → ℕ
@@ -53,6 +56,9 @@ page_status TooMany = 1
 page_status (NotAdmitted status) = 1
 page_status (Closed id) = 1
 page_status NoScan = 1
+page_status (Gone lsn) = 1
+page_status (Locked lsn xid) = 1
+page_status (Cancelled id cause) = 1
 
 -- pages are read one after the other, behind each of which there are more
 unfoldable pub ReadsSome : {S : Type 0} → Steps S → ℕ → S → List Reply → S → Type 0

@@ -14,9 +14,11 @@ use Rattle.heap_tuple.specs.declared.cell.Column.{Column}
 use Rattle.table_schema.specs.Description.{DescribedTable}
 use Rattle.table_schema.specs.RowText.{row_text}
 use Rattle.seq_scan.specs.BlockRows.{BlockRows, BlockEnd, Whole, ToastedAt, BadAt, UnknownAt, NoPage}
+use Rattle.recovery_conflict.specs.declared.locks.Cause.{Cause}
+use Rattle.recovery_conflict.specs.declared.locks.Cause.TheVariants.{Horizon, Lock}
 use Rattle.standby_core.specs.declared.types.Refusal.{Refusal}
 use Rattle.standby_core.specs.declared.types.Refusal.TheVariants.{Compressed, TooLong, Length, Unsupported, NoPage as NoSuchPage, NoTuple, PageFull, BadPage}
-use Rattle.session_model.specs.Events.{Reply, Status, Stands, Applied, AtEnd, Refused, Opened, NoTable, TooMany, NotAdmitted, Page, Closed, NoScan}
+use Rattle.session_model.specs.Events.{Reply, Status, Stands, Applied, AtEnd, Refused, Opened, NoTable, TooMany, NotAdmitted, Page, Closed, NoScan, Gone, Locked, Cancelled}
 use Rattle.session_model.specs.Answers.{Answer, NotUnderstood, Replied, Replayed}
 
 -- a line
@@ -97,6 +99,11 @@ status_text status =
     ++ backup_text status.awaited ++ codes " state=" ++ state_text status.state ++ codes " scans=" ++ decimal status.scans
     ++ codes " promoted=no"
 
+-- why a scan was cancelled
+abbrev pub cause_text : Cause → List ℕ
+cause_text (Horizon lsn horizon) = codes "horizon " ++ lsn_text lsn.0 ++ codes " " ++ decimal horizon.0
+cause_text (Lock lsn xid) = codes "lock " ++ lsn_text lsn.0 ++ codes " " ++ decimal xid.0
+
 -- the text of a reply. That of a single replay is never asked for
 unfoldable pub reply_text : Reply → List ℕ
 reply_text (Stands status) = line (status_text status)
@@ -112,6 +119,9 @@ reply_text (NotAdmitted status) =
 reply_text (Page id table block more page) = page_text id table block more page
 reply_text (Closed id) = line (codes "closed " ++ decimal id)
 reply_text NoScan = line (codes "no scan")
+reply_text (Gone lsn) = line (codes "gone " ++ lsn_text lsn)
+reply_text (Locked lsn xid) = line (codes "locked " ++ lsn_text lsn ++ codes " " ++ decimal xid)
+reply_text (Cancelled id cause) = line (codes "cancelled " ++ decimal id ++ codes " " ++ cause_text cause)
 
 -- so many records were applied, up to here
 abbrev pub replayed_text : ℕ → ℕ → List ℕ
@@ -130,6 +140,9 @@ replays_text count (NotAdmitted status) = []
 replays_text count (Page id table block more page) = []
 replays_text count (Closed id) = []
 replays_text count NoScan = []
+replays_text count (Gone lsn) = []
+replays_text count (Locked lsn xid) = []
+replays_text count (Cancelled id cause) = []
 
 -- the text of an answer
 unfoldable pub answer_text : Answer → List ℕ

@@ -1,3 +1,4 @@
+pub mod Cancelled
 pub mod Opening
 pub mod Paged
 pub mod Places

@@ -73,10 +73,10 @@ pub opens_scan :
     → snapshot ≡ take_of node.transactions.known
     → scan ≡ record { table = table; blocks = count; at = at; snapshot = snapshot; given = 0 } → id ≡ node.next_id
     → HasBlocks node.blocks table count
-    → OpensScan node table (opened.Scan id at) (with_one node (record { id = node.next_id; scan = scan }))
+    → OpensScan node table (opened.Scan id at) (with_one node (record { id = node.next_id; scan = scan; cause = None }))
 opens_scan node table count id at snapshot scan stands taken made next has =
     let open_at : Lsn → SnapshotData → OpenScan = λ a s. record { table = table; blocks = count; at = a; snapshot = s; given = 0 } in
-    let with : OpenScan → Standby = λ s. with_one node (record { id = node.next_id; scan = s }) in
+    let with : OpenScan → Standby = λ s. with_one node (record { id = node.next_id; scan = s; cause = None }) in
     let same : scan ≡ (new_scan table count node).scan =
     made ∙ ap (λ a. open_at a snapshot) stands ∙ ap (open_at node.at) taken in
     (count, has, ap (λ i. opened.Scan i at) next ∙ ap (opened.Scan node.next_id) stands, ap with same)

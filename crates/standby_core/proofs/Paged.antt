@@ -15,11 +15,14 @@ use Rattle.seq_scan.specs.BlockRows.{BlockEnd, BlockRows, Whole, ToastedAt, BadA
 use Rattle.seq_scan.specs.Printed.{row_line}
 use Rattle.seq_scan.specs.Scans.{OpenScan, after_page, end_at, end_of_page, has_more, has_next, page_of}
 use Rattle.seq_scan.specs.declared.scan.PageEnd.{PageEnd}
+use Rattle.recovery_conflict.specs.declared.locks.Cause.{Cause}
 use Rattle.standby_core.specs.declared.scans.NodePage.{NodePage}
+use Rattle.standby_core.specs.declared.scans.NodePage.TheVariants as next
 use Rattle.standby_core.specs.declared.scans.NodeScan.{NodeScan}
 use Rattle.standby_core.specs.declared.scans.PrintedPage.{PrintedPage}
+use Rattle.standby_core.specs.declared.scans.PrintedPage.TheVariants as printed
 use Rattle.standby_core.specs.Standby.{Standby}
-use Rattle.standby_core.specs.Scans.{GivesPage, PrintsPage, goes_on, is_more, is_whole, moved_on, node_page, scan_with, without}
+use Rattle.standby_core.specs.Scans.{GivesPage, GivesUnlessCancelled, PrintsPage, PrintsUnlessCancelled, after_closing, goes_on, is_more, is_whole, moved_on, node_page, scan_with, without}
 use Rattle.standby_core.specs.Pages.{AreDescribed, ReadsFrom, has_id, with_scans}
 use Rattle.standby_core.proofs.Places.{StandsAt, all_left, found_at, moved_there, remove_set, scan_there, with_page, without_there}
 
@@ -66,8 +69,8 @@ kept_scans more scans place one =
 
 -- the scan with its page, and the scans that are left then
 module _ (id place : ℕ) (scans : List NodeScan) (one : NodeScan) (stands : StandsAt id scans place) (there : one ≡ get_or scans place one) where
-  pub scan_is : scan_with id scans ≡ Some one.scan
-  scan_is = scan_there id scans place one stands ∙ ap (λ (o : NodeScan). Some o.scan) (sym there)
+  pub scan_is : scan_with id scans ≡ Some one
+  scan_is = scan_there id scans place one stands ∙ ap (λ (o : NodeScan). Some o) (sym there)
 
   left_is : (more : Bool) → kept_scans more scans place (with_page one) ≡ cond more (moved_on id scans) (without id scans)
   left_is true = ap (λ (o : NodeScan). set scans place (with_page o)) there ∙ sym (moved_there id scans place one stands)
@@ -96,38 +99,61 @@ module _ (id place : ℕ) (scans : List NodeScan) (one : NodeScan) (stands : Sta
         ap (with_scans node) (scans_left (is_more end) goes after new moved same left)
         ∙ ap (λ (s : List NodeScan). with_scans node (cond goes (moved_on id s) (without id s))) (sym reads.open_scans)
 
+    -- the scan was cancelled, and is taken away
+    closes : (new : List NodeScan) → new ≡ remove scans place → with_scans node new ≡ after_closing id node
+    closes new left =
+        ap (with_scans node) (left ∙ sym (without_there id scans place stands) ∙ ap (without id) (sym reads.open_scans))
+
+    pub gives_cancelled :
+        (cause : Cause) (new : List NodeScan) → one.cause ≡ Some cause → new ≡ remove scans place
+        → GivesPage id (scan_with id scans) node (Some (next.Cancelled cause)) (with_scans node new)
+    gives_cancelled cause new has left =
+        subst (λ (found : Option NodeScan). GivesPage id found node (Some (next.Cancelled cause)) (with_scans node new)) (sym scan_is)
+        (subst (λ (why : Option Cause). GivesUnlessCancelled id why one.scan node (Some (next.Cancelled cause)) (with_scans node new)) (sym has)
+        (refl, closes new left))
+
+    pub prints_cancelled :
+        (head text : List ℕ) (cause : Cause) (new : List NodeScan) → one.cause ≡ Some cause → new ≡ remove scans place
+        → PrintsPage id (scan_with id scans) node (Some (printed.Cancelled cause)) (with_scans node new) head text text
+    prints_cancelled head text cause new has left =
+        subst (λ (found : Option NodeScan). PrintsPage id found node (Some (printed.Cancelled cause)) (with_scans node new) head text text) (sym scan_is)
+        (subst (λ (why : Option Cause). PrintsUnlessCancelled id why one.scan node (Some (printed.Cancelled cause)) (with_scans node new) head text text) (sym has)
+        (refl, closes new left, refl))
+
     -- the scan is given its next page
     pub gives :
-        (table : ℕ) (rows : List (List Cell)) (end : PageEnd) (after : OpenScan) (new : List NodeScan) → table ≡ one.scan.table
+        one.cause ≡ None → (table : ℕ) (rows : List (List Cell)) (end : PageEnd) (after : OpenScan) (new : List NodeScan) → table ≡ one.scan.table
         → (rows ≡ (page_for tables blocks transactions one.scan).rows) × (end ≡ end_of_page one.scan (page_for tables blocks transactions one.scan))
         → after ≡ after_page one.scan → new ≡ kept_scans (is_more end) scans place (record one { scan = after })
-        → GivesPage id (scan_with id scans) node (Some (record { table = table; rows = rows; end = end })) (with_scans node new)
-    gives table rows end after new numbered page moved left =
-        let given : ℕ → List (List Cell) → PageEnd → Option NodePage = λ t r e. Some (record { table = t; rows = r; end = e }) in
+        → GivesPage id (scan_with id scans) node (Some (next.Given table rows end)) (with_scans node new)
+    gives free table rows end after new numbered page moved left =
+        let given : ℕ → List (List Cell) → PageEnd → Option NodePage = λ t r e. Some (next.Given t r e) in
         let all_rows : rows ≡ (node_page node one.scan).rows = page.0 ∙ ap (λ (p : BlockRows). p.rows) (page_is node scans tables blocks transactions one.scan reads) in
-        subst (λ (found : Option OpenScan). GivesPage id found node (given table rows end) (with_scans node new)) (sym scan_is) (
+        subst (λ (found : Option NodeScan). GivesPage id found node (given table rows end) (with_scans node new)) (sym scan_is)
+        (subst (λ (why : Option Cause). GivesUnlessCancelled id why one.scan node (given table rows end) (with_scans node new)) (sym free) (
           ap (λ t. given t rows end) numbered
               ∙ ap (λ r. given one.scan.table r end) all_rows
               ∙ ap (given one.scan.table (node_page node one.scan).rows) (end_there end page.1),
           scans_there end after new page.1 moved left,
-        )
+        ))
 
     -- its next page is printed
     pub prints :
-        (head text printed : List ℕ) (table : ℕ) (end : PageEnd) (after : OpenScan) (new : List NodeScan) → table ≡ one.scan.table
-        → (printed ≡ text ++ flat_map (row_line head (columns_of tables one.scan.table)) (page_for tables blocks transactions one.scan).rows)
+        one.cause ≡ None → (head text out : List ℕ) (table : ℕ) (end : PageEnd) (after : OpenScan) (new : List NodeScan) → table ≡ one.scan.table
+        → (out ≡ text ++ flat_map (row_line head (columns_of tables one.scan.table)) (page_for tables blocks transactions one.scan).rows)
         × (end ≡ end_of_page one.scan (page_for tables blocks transactions one.scan))
         → after ≡ after_page one.scan → new ≡ kept_scans (is_more end) scans place (record one { scan = after })
-        → PrintsPage id (scan_with id scans) node (Some (record { table = table; end = end })) (with_scans node new) head text printed
-    prints head text printed table end after new numbered page moved left =
-        let given : ℕ → PageEnd → Option PrintedPage = λ t e. Some (record { table = t; end = e }) in
-        subst (λ (found : Option OpenScan). PrintsPage id found node (given table end) (with_scans node new) head text printed) (sym scan_is) (
+        → PrintsPage id (scan_with id scans) node (Some (printed.Given table end)) (with_scans node new) head text out
+    prints free head text out table end after new numbered page moved left =
+        let given : ℕ → PageEnd → Option PrintedPage = λ t e. Some (printed.Given t e) in
+        subst (λ (found : Option NodeScan). PrintsPage id found node (given table end) (with_scans node new) head text out) (sym scan_is)
+        (subst (λ (why : Option Cause). PrintsUnlessCancelled id why one.scan node (given table end) (with_scans node new) head text out) (sym free) (
           ap (λ t. given t end) numbered ∙ ap (given one.scan.table) (end_there end page.1),
           scans_there end after new page.1 moved left,
           page.0
               ∙ ap (λ (t : Description). text ++ flat_map (row_line head (columns_of t one.scan.table)) (page_for tables blocks transactions one.scan).rows) (sym reads.described)
               ∙ ap (λ (p : BlockRows). text ++ flat_map (row_line head (columns_of node.tables one.scan.table)) p.rows) (page_is node scans tables blocks transactions one.scan reads),
-        )
+        ))
 
 -- the node's other parts are as before
 left : (node : Standby) (scans : List NodeScan) (blocks : View) (next : ℕ) → blocks ≡ node.blocks → next ≡ node.next_id
@@ -160,11 +186,11 @@ module _ (id : ℕ) (node : Standby) (scans : List NodeScan) (blocks : View) (ne
 module _ (id : ℕ) (scans : List NodeScan) (none : scan_with id scans ≡ None) (node : Standby) (same : node.scans ≡ scans) where
   pub gives_none : GivesPage id (scan_with id scans) node None (with_scans node scans)
   gives_none =
-      subst (λ (found : Option OpenScan). GivesPage id found node None (with_scans node scans)) (sym none) (refl, ap (with_scans node) (sym same))
+      subst (λ (found : Option NodeScan). GivesPage id found node None (with_scans node scans)) (sym none) (refl, ap (with_scans node) (sym same))
 
   pub prints_none : (head text : List ℕ) → PrintsPage id (scan_with id scans) node None (with_scans node scans) head text text
   prints_none head text =
-      subst (λ (found : Option OpenScan). PrintsPage id found node None (with_scans node scans) head text text) (sym none)
+      subst (λ (found : Option NodeScan). PrintsPage id found node None (with_scans node scans) head text text) (sym none)
       (refl, ap (with_scans node) (sym same), refl)
 
 -- the table of a scan is one of so many

@@ -38,16 +38,16 @@ none_found id n (one ∷ scans) e = by (none_found id (n + 1) scans) (has_id id 
   where
     by :
         (first_that (has_id id) (n + 1) scans ≡ None → scan_with id scans ≡ None) → (test : Bool)
-        → cond test (Some n) (first_that (has_id id) (n + 1) scans) ≡ None → cond test (Some one.scan) (scan_with id scans) ≡ None
+        → cond test (Some n) (first_that (has_id id) (n + 1) scans) ≡ None → cond test (Some one) (scan_with id scans) ≡ None
     by later true e = cc
     by later false e = later e
 
 -- the scan with the id is the one at the place
-pub scan_there : (id : ℕ) (scans : List NodeScan) (place : ℕ) (d : NodeScan) → StandsAt id scans place → scan_with id scans ≡ Some (get_or scans place d).scan
+pub scan_there : (id : ℕ) (scans : List NodeScan) (place : ℕ) (d : NodeScan) → StandsAt id scans place → scan_with id scans ≡ Some (get_or scans place d)
 scan_there id [] place d stands = absurd stands
-scan_there id (one ∷ scans) zero d is = ap (λ (test : Bool). cond test (Some one.scan) (scan_with id scans)) is
+scan_there id (one ∷ scans) zero d is = ap (λ (test : Bool). cond test (Some one) (scan_with id scans)) is
 scan_there id (one ∷ scans) (suc place) d (is, stands) =
-    ap (λ (test : Bool). cond test (Some one.scan) (scan_with id scans)) is ∙ scan_there id scans place d stands
+    ap (λ (test : Bool). cond test (Some one) (scan_with id scans)) is ∙ scan_there id scans place d stands
 
 -- the scans without it are those without the place
 pub without_there : (id : ℕ) (scans : List NodeScan) (place : ℕ) → StandsAt id scans place → without id scans ≡ remove scans place
@@ -63,7 +63,7 @@ without_none id (one ∷ scans) e = by (without_none id scans) (has_id id one) e
   where
     by :
         (scan_with id scans ≡ None → without id scans ≡ scans) → (test : Bool)
-        → cond test (Some one.scan) (scan_with id scans) ≡ None → cond test scans (one ∷ without id scans) ≡ one ∷ scans
+        → cond test (Some one) (scan_with id scans) ≡ None → cond test scans (one ∷ without id scans) ≡ one ∷ scans
     by later true e = cc
     by later false e = ap (λ rest. one ∷ rest) (later e)
 

@@ -7,7 +7,7 @@ use Rattle.wal_bodies.specs.declared.types.RecBlock.{RecBlock}
 use Rattle.heap_redo.specs.declared.fault.RedoFault.{RedoFault}
 use Rattle.heap_redo.specs.declared.fault.RedoFault.TheVariants.{Memory}
 use Rattle.page_store.specs.Seen.{Seen, View}
-use Rattle.heap_redo.specs.Redone.{Outcome, and_then, redone, redone_at, redone_block, redone_in, table_of, view_by}
+use Rattle.heap_redo.specs.Redone.{Outcome, and_then, cut_by, redone, redone_at, redone_block, redone_in, redone_record, redone_unless, table_of, view_by}
 use Rattle.heap_redo.specs.Refused.{fault_at}
 
 fault_not_memory : (block : RecBlock) (refusal : BlockRefusal) → fault_at block refusal ≡ Memory → ⊥
@@ -30,14 +30,24 @@ at_not_memory : (rec : Rec) (known : List Locator) (block : RecBlock) (view : Vi
 unfolding redone_at
 at_not_memory rec known block view e = in_not_memory rec block view (table_of known block.locator) e
 
-pub redone_not_memory : (rec : Rec) (known : List Locator) (blocks : List RecBlock) (view new : View) → redone rec known blocks view ≡ (new, Err Memory) → ⊥
+blocks_not_memory : (rec : Rec) (known : List Locator) (blocks : List RecBlock) (view new : View) → redone rec known blocks view ≡ (new, Err Memory) → ⊥
 unfolding redone
-redone_not_memory rec known [] view new e = let f = ap (λ (o : Outcome). o.1) e in cc
-redone_not_memory rec known (block ∷ blocks) view new e =
-    by (λ next f. redone_not_memory rec known blocks next new f) (redone_at rec known block view) refl e
+blocks_not_memory rec known [] view new e = let f = ap (λ (o : Outcome). o.1) e in cc
+blocks_not_memory rec known (block ∷ blocks) view new e =
+    by (λ next f. blocks_not_memory rec known blocks next new f) (redone_at rec known block view) refl e
   where
     by :
         ((next : View) → redone rec known blocks next ≡ (new, Err Memory) → ⊥) → (r : Result View RedoFault) → redone_at rec known block view ≡ r
         → and_then view r (λ next. redone rec known blocks next) ≡ (new, Err Memory) → ⊥
     by later (Ok next) is f = later next f
     by later (Err fault) is f = let g = ap (λ (o : Outcome). o.1) f in at_not_memory rec known block view (is ∙ cc)
+
+-- nor is a record that takes blocks away
+unless_not_memory :
+    (rec : Rec) (known : List Locator) (view new : View) (cut : Option View) → redone_unless rec known view cut ≡ (new, Err Memory) → ⊥
+unless_not_memory rec known view new None e = blocks_not_memory rec known rec.blocks view new e
+unless_not_memory rec known view new (Some left) e = let f = ap (λ (o : Outcome). o.1) e in cc
+
+pub redone_not_memory : (rec : Rec) (known : List Locator) (view new : View) → redone_record rec known view ≡ (new, Err Memory) → ⊥
+unfolding redone_record
+redone_not_memory rec known view new e = unless_not_memory rec known view new (cut_by rec rec.kind known view) e

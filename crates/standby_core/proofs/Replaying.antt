@@ -25,8 +25,10 @@ use Rattle.wal_bodies.specs.Typed.{typed}
 use Rattle.heap_redo.specs.declared.fault.RedoFault.{RedoFault}
 use Rattle.heap_redo.specs.declared.fault.RedoFault.TheVariants as redo
 use Rattle.page_store.specs.Seen.{View}
-use Rattle.heap_redo.specs.Redone.{Outcome, Stands}
-use Rattle.xact_redo.specs.State.{state_after}
+use Rattle.heap_redo.specs.Redone.{Outcome, Stands, redone_record}
+use Rattle.xact_redo.specs.State.{TransactionState, state_after}
+use Rattle.recovery_conflict.specs.declared.locks.HeldLock.{HeldLock}
+use Rattle.standby_core.specs.declared.scans.NodeScan.{NodeScan}
 use Rattle.table_schema.specs.Description.{locators}
 use Rattle.standby_core.specs.declared.node.Node.{Node}
 use Rattle.standby_core.specs.declared.types.NodeFault.{NodeFault}
@@ -36,6 +38,9 @@ use Rattle.standby_core.specs.declared.types.Replayed.TheVariants.{Applied, AtEn
 use Rattle.standby_core.specs.declared.types.Refusal.{Refusal as What}
 use Rattle.standby_model.specs.Log as log
 use Rattle.standby_model.specs.Log.{Stop as LogStop, record_at, stop_by, typed_of, unless_refused}
+use Rattle.recovery_conflict.specs.Held.{locks_after}
+use Rattle.standby_core.specs.Conflicts.{cancelled_by, gone_after, newly_cancelled}
+use Rattle.standby_core.specs.declared.types.Passed.{Passed}
 use Rattle.standby_core.specs.Standby.{Standby, described_to, told_to}
 use Rattle.standby_core.specs.declared.types.Stopped.{Stopped}
 use Rattle.standby_core.specs.declared.types.Stopped.TheVariants as stopped
@@ -76,7 +81,7 @@ blocks_stopped rec known old new (redo.PageFull place) (inr e) = (redo.PageFull 
 blocks_stopped rec known old new (redo.BadPage place) (inl h) = let e = h.0 in cc
 blocks_stopped rec known old new (redo.BadPage place) (inr e) = (redo.BadPage place, e, refl)
 blocks_stopped rec known old new redo.Memory (inl h) = inr h.1
-blocks_stopped rec known old new redo.Memory (inr e) = absurd (redone_not_memory rec known rec.blocks old new e)
+blocks_stopped rec known old new redo.Memory (inr e) = absurd (redone_not_memory rec known old new e)
 
 -- where a record stops, so does the record that was found
 pub stops_found : (start end : Lsn) (rec : Rec) (old new : Standby) (found : Record) (why : Stopped)
@@ -88,33 +93,69 @@ stops_found start end rec old new found (stopped.Refused what) e h same = (by_bl
 stops_found start end rec old new found stopped.Memory e (inl h) same = (inl h, same)
 stops_found start end rec old new found stopped.Memory e (inr ran) same = (inr (rec, ap unless_refused (sym e), ran), same)
 
+-- a record was redone where each of the node's parts is as after it
+pub redone_as :
+    (rec : Rec) (old : Standby) (blocks : View) (transactions : TransactionState) (scans : List NodeScan) (next : ℕ) (locks : List HeldLock)
+    (known : List Locator) (gone : List (Option Lsn)) (passed : Passed) → redone_record rec (locators old.tables) old.blocks ≡ (blocks, Ok tt)
+    → transactions ≡ state_after rec old.transactions → scans ≡ cancelled_by rec old.tables old.scans → next ≡ old.next_id
+    → locks ≡ locks_after rec old.locks → known ≡ locators old.tables → gone ≡ gone_after rec known old.gone
+    → passed.awaited ≡ awaited_after rec.kind old.awaited → passed.cancelled ≡ newly_cancelled rec old.tables old.scans
+    → IsRedone rec passed old
+    (record old { blocks = blocks; transactions = transactions; scans = scans; next_id = next; locks = locks; gone = gone })
+redone_as rec old blocks transactions scans next locks known gone passed changed known_so cancelled ids held files dropped awaits counts =
+    let made : TransactionState → List NodeScan → ℕ → List HeldLock → List (Option Lsn) → Standby = λ t s n l g.
+    record old { blocks = blocks; transactions = t; scans = s; next_id = n; locks = l; gone = g } in
+    let state = state_after rec old.transactions in
+    let left = cancelled_by rec old.tables old.scans in
+    record {
+      blocks = changed;
+      awaited_is = awaits;
+      cancelled_is = counts;
+      others =
+          ap (λ t. made t scans next locks gone) known_so
+          ∙ ap (λ s. made state s next locks gone) cancelled
+          ∙ ap (λ n. made state left n locks gone) ids
+          ∙ ap (λ l. made state left old.next_id l gone) held
+          ∙ ap (made state left old.next_id (locks_after rec old.locks)) (dropped ∙ ap (λ k. gone_after rec k old.gone) files);
+    }
+
 -- where the record that was given was applied, or stopped, it is replayed
-pub given_passed : (reader : Standing) (start end : Lsn) (awaited : Option Lsn) (old mid new : Standby)
-    → GivenRedone reader start end (Ok awaited) old mid → new ≡ record mid { at = end; prev = Is start; awaited = awaited }
-    → GivenReplays reader start end (Ok (Applied start end)) old new
-given_passed reader start end awaited old mid new h moved =
+pub given_passed : (reader : Standing) (start end : Lsn) (passed : Passed) (old mid new : Standby)
+    → GivenRedone reader start end (Ok passed) old mid → new ≡ record mid { at = end; prev = Is start; awaited = passed.awaited }
+    → GivenReplays reader start end (Ok (Applied start end passed.cancelled)) old new
+given_passed reader start end passed old mid new h moved =
     let r = h.redone in
     record {
       found = h.found;
       given = h.given;
-      replays = (r.0, r.1, applied r.0 r.2 r.3 r.4, r.3, r.4);
+      replays = (r.0, r.1, applied r.0 r.2 r.3 r.4, r.3, r.4, r.2.cancelled_is);
     }
   where
-    applied : (rec : Rec) → IsRedone rec awaited old mid → rec.start ≡ start → rec.end ≡ end → IsApplied rec old new
+    applied : (rec : Rec) → IsRedone rec passed old mid → rec.start ≡ start → rec.end ≡ end → IsApplied rec old new
     applied rec is a b =
         let e = is.others in
         let blocks_same : new.blocks ≡ mid.blocks = ap (λ (node : Standby). node.blocks) moved in
         let kept_same : new.kept ≡ old.kept = ap (λ (node : Standby). node.kept) moved ∙ ap (λ (node : Standby). node.kept) e in
         let made : Lsn → Lsn → Option Lsn → View → Kept → Standby = λ s t w b k.
-        record old { at = t; prev = Is s; awaited = w; blocks = b; transactions = state_after rec old.transactions; kept = k } in
-        let same = ap (λ s. made s end awaited mid.blocks old.kept) (sym a)
-        ∙ ap (λ t. made rec.start t awaited mid.blocks old.kept) (sym b)
+        record old {
+          at = t;
+          prev = Is s;
+          awaited = w;
+          blocks = b;
+          transactions = state_after rec old.transactions;
+          kept = k;
+          scans = cancelled_by rec old.tables old.scans;
+          locks = locks_after rec old.locks;
+          gone = gone_after rec (locators old.tables) old.gone;
+        } in
+        let same = ap (λ s. made s end passed.awaited mid.blocks old.kept) (sym a)
+        ∙ ap (λ t. made rec.start t passed.awaited mid.blocks old.kept) (sym b)
         ∙ ap (λ w. made rec.start rec.end w mid.blocks old.kept) is.awaited_is
         ∙ ap (λ b. made rec.start rec.end (awaited_after rec.kind old.awaited) b old.kept) (sym blocks_same)
         ∙ ap (λ k. made rec.start rec.end (awaited_after rec.kind old.awaited) new.blocks k) (sym kept_same) in
         record {
           blocks = is.blocks ∙ ap (λ (view : View). let o : Outcome = (view, Ok tt) in o) (sym (ap (λ (node : Standby). node.blocks) moved));
-          others = moved ∙ ap (λ (node : Standby). let n : Standby = record node { at = end; prev = Is start; awaited = awaited } in n) e ∙ same;
+          others = moved ∙ ap (λ (node : Standby). let n : Standby = record node { at = end; prev = Is start; awaited = passed.awaited } in n) e ∙ same;
         }
 
 pub given_stopped : (reader : Standing) (start end : Lsn) (what : What) (old new : Standby)
@@ -134,8 +175,8 @@ refused_moved old new kept found what (by_blocks rec fault due e f) = by_blocks 
 
 replays_moved : (old new : Standby) (kept : Kept) (found : Result Rec LogStop) (result : Result Replayed NodeFault)
     → Replays result (record old { kept = kept }) new found → Replays result old new found
-replays_moved old new kept found (Ok (Applied s a)) h =
-    (h.0, h.1, record { blocks = h.2.blocks; others = h.2.others }, h.3, h.4)
+replays_moved old new kept found (Ok (Applied s a n)) h =
+    (h.0, h.1, record { blocks = h.2.blocks; others = h.2.others }, h.3, h.4, h.5)
 replays_moved old new kept found (Ok (AtEnd lsn why)) h = h
 replays_moved old new kept found (Ok (Refused lsn what)) h = (refused_moved old new kept found what h.0, h.1)
 replays_moved old new kept found (Err Archive) h = h

@@ -4,3 +4,4 @@ pub mod Steps
 pub mod View
 pub mod Scans
 pub mod Pages
+pub mod Conflicts

@@ -10,7 +10,7 @@ use Rattle.wal_bodies.specs.declared.types.RecKind.{RecKind}
 use Rattle.wal_bodies.specs.declared.types.RecKind.TheVariants.{BackupEnd}
 use Rattle.heap_redo.specs.declared.fault.RedoFault.{RedoFault}
 use Rattle.heap_redo.specs.declared.fault.RedoFault.TheVariants as redo
-use Rattle.heap_redo.specs.Redone.{RanOut, redone}
+use Rattle.heap_redo.specs.Redone.{RanOut, redone_record}
 use Rattle.table_schema.specs.Description.{locators}
 use Rattle.xact_redo.specs.State.{state_after}
 use Rattle.standby_model.specs.Log as log
@@ -21,6 +21,8 @@ use Rattle.standby_core.specs.declared.types.Replayed.{Replayed}
 use Rattle.standby_core.specs.declared.types.Replayed.TheVariants.{Applied, AtEnd, Refused}
 use Rattle.standby_core.specs.declared.types.NodeFault.{NodeFault}
 use Rattle.standby_core.specs.declared.types.NodeFault.TheVariants.{Archive, Memory}
+use Rattle.recovery_conflict.specs.Held.{locks_after}
+use Rattle.standby_core.specs.Conflicts.{cancelled_by, gone_after, newly_cancelled}
 use Rattle.standby_core.specs.Standby.{Standby, described_to}
 
 -- the end of the backup that began at this position
@@ -33,9 +35,10 @@ abbrev pub awaited_after : RecKind → Option Lsn → Option Lsn
 awaited_after kind None = None
 awaited_after kind (Some start) = if ends_backup start kind then None else Some start
 
--- the record is applied to the blocks and to the state of transactions, and the node stands at its end
+-- the record is applied to the blocks, to the state of transactions and to the locks, the scans that it conflicts with
+-- are cancelled, and the node stands at its end
 pub record IsApplied (rec : Rec) (old new : Standby) : Type 0 where
-  pub blocks : redone rec (locators old.tables) rec.blocks old.blocks ≡ (new.blocks, Ok tt)
+  pub blocks : redone_record rec (locators old.tables) old.blocks ≡ (new.blocks, Ok tt)
   pub others :
       new ≡ record old {
         at = rec.end;
@@ -44,6 +47,9 @@ pub record IsApplied (rec : Rec) (old new : Standby) : Type 0 where
         blocks = new.blocks;
         transactions = state_after rec old.transactions;
         kept = new.kept;
+        scans = cancelled_by rec old.tables old.scans;
+        locks = locks_after rec old.locks;
+        gone = gone_after rec (locators old.tables) old.gone;
       }
 
 -- a refusal of a record by its form or its body, as the node's own
@@ -68,7 +74,7 @@ pub data IsRefusedAs (old new : Standby) (found : Result Rec Stop) (what : Refus
       (why : log.RecordRefusal) → found ≡ Err (log.Refused why) → refusal_of why ≡ what → new.blocks ≡ old.blocks
       → IsRefusedAs old new found what
   by_blocks :
-      (rec : Rec) (fault : RedoFault) → found ≡ Ok rec → redone rec (locators old.tables) rec.blocks old.blocks ≡ (new.blocks, Err fault)
+      (rec : Rec) (fault : RedoFault) → found ≡ Ok rec → redone_record rec (locators old.tables) old.blocks ≡ (new.blocks, Err fault)
       → redo_refusal fault ≡ Some what → IsRefusedAs old new found what
 
 -- memory ran out before the blocks were changed, or after some of the record's blocks
@@ -78,8 +84,9 @@ MayBeRedone old new found =
 
 -- the answer of one replay, by what stands at the node's position
 abbrev pub Replays : Result Replayed NodeFault → Standby → Standby → Result Rec Stop → Type 0
-Replays (Ok (Applied start at)) old new found =
+Replays (Ok (Applied start at cancelled)) old new found =
     (rec : Rec) × (found ≡ Ok rec) × IsApplied rec old new × (rec.start ≡ start) × (rec.end ≡ at)
+    × (cancelled ≡ newly_cancelled rec old.tables old.scans)
 Replays (Ok (AtEnd lsn why)) old new found = (found ≡ Err (log.Ended why)) × (lsn ≡ old.at) × (new.blocks ≡ old.blocks)
 Replays (Ok (Refused lsn what)) old new found = IsRefusedAs old new found what × (lsn ≡ old.at)
 Replays (Err Archive) old new found = new.blocks ≡ old.blocks
@@ -91,14 +98,14 @@ ReplaysSome result old new = (found : Result Entry NoRecord) × Replays result o
 
 -- where no record was applied, all but the blocks, and what is kept of the log, is as before
 abbrev pub StaysUnlessApplied : Result Replayed NodeFault → Standby → Standby → Type 0
-StaysUnlessApplied (Ok (Applied start at)) old new = Unit {0}
+StaysUnlessApplied (Ok (Applied start at cancelled)) old new = Unit {0}
 StaysUnlessApplied (Ok (AtEnd lsn why)) old new = new ≡ record old { blocks = new.blocks; kept = new.kept }
 StaysUnlessApplied (Ok (Refused lsn what)) old new = new ≡ record old { blocks = new.blocks; kept = new.kept }
 StaysUnlessApplied (Err fault) old new = new ≡ record old { blocks = new.blocks; kept = new.kept }
 
 -- where a record was applied the node stands behind the position where it stood, and no position grows without bound
 abbrev pub MovesOn : Result Replayed NodeFault → ℕ → ℕ → Type 0
-MovesOn (Ok (Applied start at)) old new = (old < new) × (new ≤ 2 ^ 63 + 2 ^ 31)
+MovesOn (Ok (Applied start at cancelled)) old new = (old < new) × (new ≤ 2 ^ 63 + 2 ^ 31)
 MovesOn (Ok (AtEnd lsn why)) old new = Unit {0}
 MovesOn (Ok (Refused lsn what)) old new = Unit {0}
 MovesOn (Err fault) old new = Unit {0}

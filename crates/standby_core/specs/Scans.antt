@@ -1,5 +1,5 @@
 -- Open scans of a node: when one is admitted, what it is given, and what is left of it then (xlogrecovery.c, CheckRecoveryConsistency; procarray.c, GetSnapshotData).
-use Rattle.std.specs.Prelude.{◌≡◌, ℕ, ◌+◌, ◌^◌, ◌==◌, Bool, true, false, not, ◌&&◌, ◌||◌, nat_lt, nat_le, List, [], ◌∷◌, ◌++◌, length, Option, Some, None, is_some, if◌then◌else◌}
+use Rattle.std.specs.Prelude.{◌≡◌, ℕ, ◌+◌, ◌^◌, ◌<◌, ◌==◌, Bool, true, false, not, ◌&&◌, ◌||◌, nat_lt, nat_le, List, [], ◌∷◌, ◌++◌, get_or, length, Option, Some, None, is_some, if◌then◌else◌}
 use Rattle.std.specs.List.{flat_map}
 use Rattle.known_assigned.specs.declared.state.State.{State}
 use Rattle.known_assigned.specs.declared.state.State.TheVariants.{Initialized, Pending, Ready}
@@ -12,11 +12,18 @@ use Rattle.seq_scan.specs.declared.scan.PageEnd.{PageEnd}
 use Rattle.seq_scan.specs.declared.scan.PageEnd.TheVariants as page
 use Rattle.seq_scan.specs.Scans.{OpenScan, after_page, end_of_page, has_more, page_of}
 use Rattle.xact_redo.specs.Sees.{sees_by}
+use Rattle.pg_types.specs.declared.names.Lsn.{Lsn}
+use Rattle.recovery_conflict.specs.declared.locks.Cause.{Cause}
+use Rattle.recovery_conflict.specs.declared.locks.HeldLock.{HeldLock}
+use Rattle.recovery_conflict.specs.Held.{last_of}
 use Rattle.standby_core.specs.declared.scans.NodePage.{NodePage}
+use Rattle.standby_core.specs.declared.scans.NodePage.TheVariants as given
 use Rattle.standby_core.specs.declared.scans.NodeScan.{NodeScan}
 use Rattle.standby_core.specs.declared.scans.Opened.{Opened}
 use Rattle.standby_core.specs.declared.scans.Opened.TheVariants as opened
 use Rattle.standby_core.specs.declared.scans.PrintedPage.{PrintedPage}
+use Rattle.standby_core.specs.declared.scans.PrintedPage.TheVariants as printed
+use Rattle.standby_core.specs.Conflicts.{oid_of}
 use Rattle.standby_core.specs.Standby.{Standby, node_status}
 
 abbrev pub is_ready : State → Bool
@@ -46,9 +53,9 @@ abbrev pub HasBlocks : View → ℕ → ℕ → Type 0
 HasBlocks view table count = (block : ℕ) → is_there (view table block) ≡ nat_lt block count
 
 -- the open scan with this id
-abbrev pub scan_with : ℕ → List NodeScan → Option OpenScan
+abbrev pub scan_with : ℕ → List NodeScan → Option NodeScan
 scan_with id [] = None
-scan_with id (one ∷ scans) = if one.id == id then Some one.scan else scan_with id scans
+scan_with id (one ∷ scans) = if one.id == id then Some one else scan_with id scans
 
 -- the scans without it
 abbrev pub without : ℕ → List NodeScan → List NodeScan
@@ -66,6 +73,7 @@ abbrev pub new_scan : ℕ → ℕ → Standby → NodeScan
 new_scan table count node = record {
   id = node.next_id;
   scan = record { table = table; blocks = count; at = node.at; snapshot = take_of node.transactions.known; given = 0 };
+  cause = None;
 }
 
 -- the node with it
@@ -105,14 +113,30 @@ after_reading id scan node =
 abbrev pub after_closing : ℕ → Standby → Standby
 after_closing id node = record node { scans = without id node.scans }
 
--- the answer to an opening: the table is not described, too many scans are open or were, scans are not admitted, or a
--- scan with the next id is open
+-- the answer to an opening: the table is not described, too many scans are open or were, scans are not admitted, the
+-- table's file was dropped, a lock of the table is in force, or a scan with the next id is open
 abbrev pub OpensScan : Standby → ℕ → Opened → Standby → Type 0
 OpensScan old table reply new =
     (count : ℕ) × HasBlocks old.blocks table count × (reply ≡ opened.Scan old.next_id old.at) × (new ≡ with_new_scan table count old)
 
+abbrev pub OpensUnlessLocked : Option HeldLock → Standby → ℕ → Opened → Standby → Type 0
+OpensUnlessLocked (Some held) old table reply new = (reply ≡ opened.Locked held.since held.entry.xid) × (new ≡ old)
+OpensUnlessLocked None old table reply new = OpensScan old table reply new
+
+-- the last lock in force of the table with this number
+abbrev pub lock_of : Standby → ℕ → Option HeldLock
+lock_of node table = last_of node.tables.database (oid_of node.tables table) node.locks None
+
+abbrev pub OpensUnlessGone : Option Lsn → Standby → ℕ → Opened → Standby → Type 0
+OpensUnlessGone (Some lsn) old table reply new = (reply ≡ opened.Gone lsn) × (new ≡ old)
+OpensUnlessGone None old table reply new = OpensUnlessLocked (lock_of old table) old table reply new
+
+-- since when the table with this number is gone, if it is
+abbrev pub gone_since : Standby → ℕ → Option Lsn
+gone_since node table = get_or node.gone table None
+
 abbrev pub OpensAdmitted : Bool → Standby → ℕ → Opened → Standby → Type 0
-OpensAdmitted true old table reply new = OpensScan old table reply new
+OpensAdmitted true old table reply new = OpensUnlessGone (gone_since old table) old table reply new
 OpensAdmitted false old table reply new = (reply ≡ opened.NotAdmitted (node_status old)) × (new ≡ old)
 
 abbrev pub OpensUnlessCrowded : Bool → Standby → ℕ → Opened → Standby → Type 0
@@ -126,17 +150,36 @@ OpensTable (Some table) old reply new = OpensUnlessCrowded (is_crowded old) old 
 abbrev pub Opens : List ℕ → Standby → Opened → Standby → Type 0
 Opens name old reply new = OpensTable (number_named old.tables name) old reply new
 
+-- a scan that was cancelled tells why, and is taken away; another is given its next page
+abbrev pub GivesUnlessCancelled : ℕ → Option Cause → OpenScan → Standby → Option NodePage → Standby → Type 0
+GivesUnlessCancelled id (Some cause) scan old page new = (page ≡ Some (given.Cancelled cause)) × (new ≡ after_closing id old)
+GivesUnlessCancelled id None scan old page new =
+    (page ≡ Some (given.Given scan.table (node_page old scan).rows (end_of_page scan (node_page old scan)))) × (new ≡ after_reading id scan old)
+
 -- the next page of the scan with this id, if it is open
-abbrev pub GivesPage : ℕ → Option OpenScan → Standby → Option NodePage → Standby → Type 0
+abbrev pub GivesPage : ℕ → Option NodeScan → Standby → Option NodePage → Standby → Type 0
 GivesPage id None old page new = (page ≡ None) × (new ≡ old)
-GivesPage id (Some scan) old page new =
-    (page ≡ Some (record { table = scan.table; rows = (node_page old scan).rows; end = end_of_page scan (node_page old scan) }))
-    × (new ≡ after_reading id scan old)
+GivesPage id (Some one) old page new = GivesUnlessCancelled id one.cause one.scan old page new
 
 -- the same, with a line for each of its rows behind what stood in a text
-abbrev pub PrintsPage : ℕ → Option OpenScan → Standby → Option PrintedPage → Standby → List ℕ → List ℕ → List ℕ → Type 0
-PrintsPage id None old page new head before now = (page ≡ None) × (new ≡ old) × (now ≡ before)
-PrintsPage id (Some scan) old page new head before now =
-    (page ≡ Some (record { table = scan.table; end = end_of_page scan (node_page old scan) }))
+abbrev pub PrintsUnlessCancelled :
+    ℕ → Option Cause → OpenScan → Standby → Option PrintedPage → Standby → List ℕ → List ℕ → List ℕ → Type 0
+PrintsUnlessCancelled id (Some cause) scan old page new head before now =
+    (page ≡ Some (printed.Cancelled cause)) × (new ≡ after_closing id old) × (now ≡ before)
+PrintsUnlessCancelled id None scan old page new head before now =
+    (page ≡ Some (printed.Given scan.table (end_of_page scan (node_page old scan))))
     × (new ≡ after_reading id scan old)
     × (now ≡ before ++ flat_map (row_line head (columns_of old.tables scan.table)) (node_page old scan).rows)
+
+abbrev pub PrintsPage : ℕ → Option NodeScan → Standby → Option PrintedPage → Standby → List ℕ → List ℕ → List ℕ → Type 0
+PrintsPage id None old page new head before now = (page ≡ None) × (new ≡ old) × (now ≡ before)
+PrintsPage id (Some one) old page new head before now = PrintsUnlessCancelled id one.cause one.scan old page new head before now
+
+-- a page that was given is of one of so many tables
+abbrev pub IsGivenBelow : ℕ → NodePage → Type 0
+IsGivenBelow count (given.Given table rows end) = table < count
+IsGivenBelow count (given.Cancelled cause) = Unit {0}
+
+abbrev pub IsPrintedBelow : ℕ → PrintedPage → Type 0
+IsPrintedBelow count (printed.Given table end) = table < count
+IsPrintedBelow count (printed.Cancelled cause) = Unit {0}

@@ -1,5 +1,5 @@
 -- A node as contracts see it.
-use Rattle.std.specs.Prelude.{ℕ, List, [], length, Option, Some, is_some}
+use Rattle.std.specs.Prelude.{ℕ, List, [], length, replicate, Option, Some, None, is_some}
 use Rattle.pg_types.specs.declared.names.Lsn.{Lsn}
 use Rattle.wal_record.specs.declared.types.PrevRule.{PrevRule}
 use Rattle.wal_record.specs.declared.types.PrevRule.TheVariants.{Below}
@@ -9,6 +9,7 @@ use Rattle.page_store.specs.Seen.{View}
 use Rattle.table_schema.specs.Description.{Description, locators}
 use Rattle.xact_redo.specs.State.{TransactionState, before_records}
 use Rattle.standby_model.specs.Log.{Described}
+use Rattle.recovery_conflict.specs.declared.locks.HeldLock.{HeldLock}
 use Rattle.standby_core.specs.declared.scans.NodeScan.{NodeScan}
 use Rattle.standby_core.specs.declared.types.NodeStatus.{NodeStatus}
 use Rattle.standby_core.specs.declared.types.Origin.{Origin}
@@ -31,6 +32,9 @@ pub record Standby : Type 0 where
   -- the open scans, in the order of their opening, and the id of the next one
   pub scans : List NodeScan
   pub next_id : ℕ
+  -- the access exclusive locks in force, and of each described table the start of the record that dropped its file
+  pub locks : List HeldLock
+  pub gone : List (Option Lsn)
   -- what is kept of the log
   pub kept : Kept
 
@@ -49,6 +53,8 @@ at_origin tables origin blocks = record {
   transactions = before_records;
   scans = [];
   next_id = 1;
+  locks = [];
+  gone = replicate (length tables.tables) None;
   kept = record { from = 0; bytes = [] };
 }
 

@@ -12,7 +12,7 @@ use Rattle.wal_bodies.specs.declared.types.BodyFault.{BodyFault}
 use Rattle.wal_bodies.specs.declared.types.BodyFault.TheVariants as body
 use Rattle.heap_redo.specs.declared.fault.RedoFault.{RedoFault}
 use Rattle.page_store.specs.Seen.{View}
-use Rattle.heap_redo.specs.Redone.{RanOut, redone}
+use Rattle.heap_redo.specs.Redone.{RanOut, redone_record}
 use Rattle.xact_redo.specs.State.{state_after}
 use Rattle.table_schema.specs.Description.{locators}
 use Rattle.standby_core.specs.declared.types.Refusal.{Refusal}
@@ -23,6 +23,9 @@ use Rattle.standby_core.specs.declared.types.NodeFault.{NodeFault}
 use Rattle.standby_core.specs.declared.types.NodeFault.TheVariants.{Archive, Memory}
 use Rattle.standby_model.specs.Log.{Stop, typed_of}
 use Rattle.standby_core.specs.Standby.{Standby, described_to}
+use Rattle.recovery_conflict.specs.Held.{locks_after}
+use Rattle.standby_core.specs.Conflicts.{cancelled_by, gone_after, newly_cancelled}
+use Rattle.standby_core.specs.declared.types.Passed.{Passed}
 use Rattle.standby_core.specs.declared.types.Stopped.{Stopped}
 use Rattle.standby_core.specs.declared.types.Stopped.TheVariants as stopped
 use Rattle.standby_core.specs.Replay.{IsRefusedAs, MayBeRedone, Replays, awaited_after, redo_refusal}
@@ -54,27 +57,35 @@ IsGiven reader start found = decoded reader.source.text start.0 reader.prev ≡ 
 
 -- what a record in typed form does to the blocks, and why it stops
 abbrev pub TypedRedone : Rec → List Locator → Result (Unit {0}) Stopped → View → View → Type 0
-TypedRedone rec known (Ok done) old new = redone rec known rec.blocks old ≡ (new, Ok tt)
+TypedRedone rec known (Ok done) old new = redone_record rec known old ≡ (new, Ok tt)
 TypedRedone rec known (Err (stopped.Refused what)) old new =
-    (fault : RedoFault) × (redone rec known rec.blocks old ≡ (new, Err fault)) × (redo_refusal fault ≡ Some what)
+    (fault : RedoFault) × (redone_record rec known old ≡ (new, Err fault)) × (redo_refusal fault ≡ Some what)
 TypedRedone rec known (Err stopped.Memory) old new = (new ≡ old) ⊎ RanOut rec known old new
 
--- a record has changed the blocks and the state of transactions, and this end of a backup is awaited then
-pub record IsRedone (rec : Rec) (awaited : Option Lsn) (old new : Standby) : Type 0 where
-  pub blocks : redone rec (locators old.tables) rec.blocks old.blocks ≡ (new.blocks, Ok tt)
-  pub awaited_is : awaited ≡ awaited_after rec.kind old.awaited
-  pub others : new ≡ record old { blocks = new.blocks; transactions = state_after rec old.transactions }
+-- a record has changed the blocks, the state of transactions and the locks, and cancelled so many scans; and this end
+-- of a backup is awaited then
+pub record IsRedone (rec : Rec) (passed : Passed) (old new : Standby) : Type 0 where
+  pub blocks : redone_record rec (locators old.tables) old.blocks ≡ (new.blocks, Ok tt)
+  pub awaited_is : passed.awaited ≡ awaited_after rec.kind old.awaited
+  pub cancelled_is : passed.cancelled ≡ newly_cancelled rec old.tables old.scans
+  pub others :
+      new ≡ record old {
+        blocks = new.blocks;
+        transactions = state_after rec old.transactions;
+        scans = cancelled_by rec old.tables old.scans;
+        locks = locks_after rec old.locks;
+        gone = gone_after rec (locators old.tables) old.gone;
+      }
 
--- what a record that was found does to the blocks and to the state of transactions, and what is awaited then; where it
--- stops the state is as before
-abbrev pub Redone : Lsn → Lsn → Result (Option Lsn) Stopped → Standby → Standby → Result Rec Stop → Type 0
-Redone start end (Ok awaited) old new found =
-    (rec : Rec) × (found ≡ Ok rec) × IsRedone rec awaited old new × (rec.start ≡ start) × (rec.end ≡ end)
+-- what a record that was found does, and what is awaited then; where it stops all but the blocks is as before
+abbrev pub Redone : Lsn → Lsn → Result Passed Stopped → Standby → Standby → Result Rec Stop → Type 0
+Redone start end (Ok passed) old new found =
+    (rec : Rec) × (found ≡ Ok rec) × IsRedone rec passed old new × (rec.start ≡ start) × (rec.end ≡ end)
 Redone start end (Err (stopped.Refused what)) old new found = IsRefusedAs old new found what × (new ≡ record old { blocks = new.blocks })
 Redone start end (Err stopped.Memory) old new found = MayBeRedone old new found × (new ≡ record old { blocks = new.blocks })
 
 -- what the record that was given does so
-pub record GivenRedone (reader : Standing) (start end : Lsn) (result : Result (Option Lsn) Stopped) (old new : Standby) : Type 0 where
+pub record GivenRedone (reader : Standing) (start end : Lsn) (result : Result Passed Stopped) (old new : Standby) : Type 0 where
   pub found : Record
   pub given : IsGiven reader start found
   pub redone :
@@ -89,7 +100,7 @@ pub record GivenReplays (reader : Standing) (start end : Lsn) (result : Result R
 
 -- where a record was applied the node stands at its end
 abbrev pub EndsAt : Result Replayed NodeFault → Lsn → Standby → Type 0
-EndsAt (Ok (Applied start at)) end new = new.at ≡ end
+EndsAt (Ok (Applied start at cancelled)) end new = new.at ≡ end
 EndsAt (Ok (AtEnd lsn why)) end new = Unit {0}
 EndsAt (Ok (Refused lsn what)) end new = Unit {0}
 EndsAt (Err fault) end new = Unit {0}

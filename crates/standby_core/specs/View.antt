@@ -24,6 +24,8 @@ standby node = record {
   transactions = transactions node.state;
   scans = node.scans.open.items;
   next_id = node.scans.next_id;
+  locks = node.locks.locks;
+  gone = node.gone.items;
   kept = node.reader.source.kept;
 }
 

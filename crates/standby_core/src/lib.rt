@@ -3,6 +3,7 @@
 //! that are open meanwhile.
 #![tactic(auto)]
 
+mod conflicts;
 mod node;
 mod open;
 mod scans;

@@ -6,16 +6,19 @@ ghost use Rattle.table_schema.specs.Description.{locators};
 ghost use Rattle.page_store.specs.Seen.{view_of};
 ghost use Rattle.wal_bodies.specs.Xids.{AreXidsShort};
 ghost use Rattle.xact_redo.specs.State.{state_after, transactions};
+ghost use Rattle.recovery_conflict.specs.Held.{locks_after};
 ghost use Rattle.standby_core.specs.Pages.{AreDescribed};
 ghost use Rattle.standby_core.specs.Replay.{awaited_after, redo_refusal};
 ghost use Rattle.standby_core.specs.Steps.{TypedRedone, body_refusal, stopped_by, unread};
 
+use crate::conflicts::mark_dropped;
 use crate::scans::Scans;
-use crate::types::{NodeFault, NodeStatus, Origin, Refusal, Replayed, Stopped};
+use crate::types::{NodeFault, NodeStatus, Origin, Passed, Refusal, Replayed, Stopped};
 use heap_redo::RedoFault;
 use outside::Archive;
 use page_store::Pool;
 use pg_types::{Lsn, NoMemory, Tli};
+use recovery_conflict::Locks;
 use std::alloc::Global;
 use table_schema::Tables;
 use wal_archive::ArchiveLog;
@@ -25,7 +28,8 @@ use wal_record::PrevRule;
 use xact_redo::{XactState, reserve};
 
 /// A standby's node. Contracts see the blocks of the described tables, the state of transactions, where
-/// replay stands and after which record, and the end of the backup that is awaited.
+/// replay stands and after which record, the end of the backup that is awaited, the open scans, the locks in force
+/// and which tables are gone.
 #[derive(Drop)]
 pub struct Node {
     pub(crate) alloc: Global,
@@ -39,11 +43,15 @@ pub struct Node {
     min: Lsn,
     awaited: Option<Lsn>,
     pub(crate) scans: Scans,
+    pub(crate) locks: Locks,
+    /// Of each described table the start of the record that dropped its file.
+    pub(crate) gone: Vec<Option<Lsn>>,
     ghost described: { table_count pool ≡ length tables.tables },
     ghost allowed: { IsSegmentSize segsize } by { IsSegmentSize-prop segsize },
     ghost same_size: { reader.source.segsize ≡ segsize },
     ghost same_at: { reader.at.0 ≡ at.0 },
     ghost scanned: { AreDescribed tables scans.open.items },
+    ghost placed: { length gone.items ≡ length tables.tables },
 }
 
 impl Node {
@@ -79,6 +87,7 @@ impl Node {
             origin.redo,
             PrevRule::Below,
         )?;
+        let gone = vec![in alloc; None; tables.locators().len()]?;
         Ok(Node {
             alloc,
             tables,
@@ -90,6 +99,8 @@ impl Node {
             min: origin.redo,
             awaited: Some(origin.redo),
             scans: Scans::new(alloc),
+            locks: Locks::new(alloc),
+            gone,
         })
     }
 
@@ -124,13 +135,15 @@ impl Node {
         &self.state
     }
 
-    /// Replays the record at the node's position: its blocks are changed, then the state of transactions,
-    /// and the node moves to its end (`ApplyWalRecord`). The room for the state is made before a block is
-    /// changed. A backup-end record of the backup that is awaited ends the waiting.
+    /// Replays the record at the node's position: its blocks are changed, then the state of transactions and
+    /// the locks, the scans that it conflicts with are cancelled, and the node moves to its end
+    /// (`ApplyWalRecord`). The room for the state and the locks is made before a block is changed. A backup-end
+    /// record of the backup that is awaited ends the waiting.
     ///
-    /// After every answer but `Applied` the position and the state of transactions are as before. After
-    /// `Refused`, which comes again, and after `Memory` each block is as before the record or as after it.
-    /// `Refused` and `AtEnd` bear the node's position. So much holds also over an archive that tells nothing.
+    /// After every answer but `Applied` the position, the state of transactions, the locks and the scans are as
+    /// before. After `Refused`, which comes again, and after `Memory` each block is as before the record or as
+    /// after it. `Refused` and `AtEnd` bear the node's position. So much holds also over an archive that tells
+    /// nothing.
     ///
     /// # Errors
     /// `Archive` only where the archive's faults rose. `Memory` where memory ran out.
@@ -185,19 +198,23 @@ impl Node {
         ensures no_archive { result ≡ Err NodeFault.Archive → ⊥ }
     {
         match self.redo(start, end) {
-            Ok(awaited) => {
-                self.pass(start, end, awaited);
-                Ok(Replayed::Applied { start, at: end })
+            Ok(passed) => {
+                self.pass(start, end, passed.awaited);
+                Ok(Replayed::Applied {
+                    start,
+                    at: end,
+                    cancelled: passed.cancelled,
+                })
             }
             Err(Stopped::Refused(what)) => Ok(Replayed::Refused { lsn: self.at, what }),
             Err(Stopped::Memory) => Err(NodeFault::Memory),
         }
     }
 
-    /// Changes the blocks and the state of transactions by the record that the reader gave last, and
-    /// answers where the backup began whose end is awaited after it.
+    /// Changes the blocks, the state of transactions and the locks by the record that the reader gave last, cancels
+    /// the scans that it conflicts with, and marks the tables that it drops.
     #[tactic(auto, unfolding(crate::specs::View::standby))]
-    fn redo(&mut self, start: Lsn, end: Lsn) -> Result<Option<Lsn>, Stopped>
+    fn redo(&mut self, start: Lsn, end: Lsn) -> Result<Passed, Stopped>
         requires { Gives self.old.reader start end }
         ensures redone { GivenRedone self.old.reader start end result (standby self.old) (standby self.new) }
         ensures reader { self.new.reader ≡ self.old.reader }
@@ -207,8 +224,17 @@ impl Node {
         let known = self.tables.locators();
         match body(&view, start, end, self.tables.database(), known) {
             Ok(rec) => {
-                redo_typed(&rec, &self.tables, &mut self.pool, &mut self.state)?;
-                Ok(awaited_after(&rec.kind, self.awaited))
+                redo_typed(
+                    &rec,
+                    &self.tables,
+                    &mut self.pool,
+                    &mut self.state,
+                    &mut self.locks,
+                )?;
+                let cancelled = self.scans.cancel(&rec, &self.tables);
+                mark_dropped(&rec, known, &mut self.gone);
+                let awaited = awaited_after(&rec.kind, self.awaited);
+                Ok(Passed { awaited, cancelled })
             }
             Err(fault) => Err(Stopped::Refused(refused_body(fault))),
         }
@@ -226,27 +252,32 @@ impl Node {
     }
 }
 
-/// Changes the blocks and the state of transactions by a record. The room for the state is made before a
-/// block is changed.
+/// Changes the blocks, the state of transactions and the locks by a record. The room for the state and the locks is
+/// made before a block is changed.
 fn redo_typed(
     rec: &Rec<'_>,
     tables: &Tables,
     pool: &mut Pool,
     state: &mut XactState,
+    locks: &mut Locks,
 ) -> Result<(), Stopped>
     requires tables { length tables.now.tables ≤ table_count pool.old }
     requires xids { AreXidsShort rec.now }
     ensures redone { TypedRedone rec.now (locators tables.now) result (view_of (content pool.old)) (view_of (content pool.new)) }
     ensures applied { OnOk result (transactions state.new ≡ state_after rec.now (transactions state.old)) }
     ensures stays { OnErr result (transactions state.new ≡ transactions state.old) }
+    ensures locked { OnOk result (locks.new.locks ≡ locks_after rec.now locks.old.locks) }
+    ensures held { OnErr result (locks.new.locks ≡ locks.old.locks) }
     ensures same_tables { table_count pool.new ≡ table_count pool.old }
 {
     reserve(rec, state)?;
+    locks.reserve(rec)?;
     match heap_redo::redo(rec, tables, pool) {
         Ok(()) => {}
         Err(fault) => return Err(stopped_at(fault)),
     }
     xact_redo::redo(rec, state);
+    locks.redo(rec);
     Ok(())
 }
 

@@ -2,6 +2,7 @@ ghost use Rattle.std.specs.Prelude.{◌≡◌};
 ghost use Rattle.standby_core.specs.Standby.{Standby, node_status};
 ghost use Rattle.standby_core.specs.Scans.{is_admitted};
 
+use crate::conflicts::{gone_since, oid_of};
 use crate::node::Node;
 use crate::scans::{NodePage, Opened, PrintedPage};
 use crate::types::NodeStatus;
@@ -13,10 +14,11 @@ use standby_snapshot::take;
 impl Node {
     ghost use Rattle.std.specs.Prelude.{◌<◌, false, true, length, is_some, IfOk, IfSome, OnErr};
     ghost use Rattle.standby_core.specs.View.{standby};
-    ghost use Rattle.standby_core.specs.Scans.{GivesPage, Opens, OpensScan, OpensUnlessCrowded, PrintsPage, after_closing, is_crowded, scan_with};
+    ghost use Rattle.standby_core.specs.Scans.{GivesPage, IsGivenBelow, IsPrintedBelow, Opens, OpensAdmitted, OpensScan, OpensUnlessCrowded, OpensUnlessLocked, PrintsPage, after_closing, is_crowded, lock_of, scan_with};
 
     /// Opens a scan of the table with this name: over the rows that are committed at the node's position. The first
-    /// that holds is answered: the table is not described, too many scans are or were open, scans are not admitted.
+    /// that holds is answered: the table is not described, too many scans are or were open, scans are not admitted, the
+    /// table's file was dropped, a lock of the table is in force.
     ///
     /// # Errors
     /// For want of memory; the node is as before then.
@@ -48,9 +50,43 @@ impl Node {
         self.open_admitted(table)
     }
 
-    /// Opens a scan of the table with this number, as one is admitted.
+    /// Opens a scan of the table with this number, as scans are admitted.
     #[tactic(auto, unfolding(crate::specs::View::standby))]
     fn open_admitted(&mut self, table: u16) -> Result<Opened, NoMemory>
+        requires table { table < length (standby self.old).tables.tables }
+        requires room { is_crowded (standby self.old) ≡ false }
+        requires admitted { is_admitted (standby self.old) ≡ true }
+        ensures opens { IfOk result (λ opened. OpensAdmitted true (standby self.old) table opened (standby self.new)) }
+        ensures err { OnErr result (standby self.new ≡ standby self.old) }
+    {
+        match gone_since(&self.gone, table) {
+            Some(lsn) => Ok(Opened::Gone { lsn }),
+            None => self.open_there(table),
+        }
+    }
+
+    /// Opens a scan of the table with this number, whose file is there.
+    #[tactic(auto, unfolding(crate::specs::View::standby))]
+    fn open_there(&mut self, table: u16) -> Result<Opened, NoMemory>
+        requires table { table < length (standby self.old).tables.tables }
+        requires room { is_crowded (standby self.old) ≡ false }
+        requires admitted { is_admitted (standby self.old) ≡ true }
+        ensures opens { IfOk result (λ opened. OpensUnlessLocked (lock_of (standby self.old) table) (standby self.old) table opened (standby self.new)) }
+        ensures err { OnErr result (standby self.new ≡ standby self.old) }
+    {
+        let oid = oid_of(&self.tables, table);
+        match self.locks.held(self.tables.database(), oid) {
+            Some(held) => Ok(Opened::Locked {
+                lsn: held.since,
+                xid: held.entry.xid,
+            }),
+            None => self.open_free(table),
+        }
+    }
+
+    /// Opens a scan of the table with this number, of which no lock is in force.
+    #[tactic(auto, unfolding(crate::specs::View::standby))]
+    fn open_free(&mut self, table: u16) -> Result<Opened, NoMemory>
         requires table { table < length (standby self.old).tables.tables }
         requires room { is_crowded (standby self.old) ≡ false }
         requires admitted { is_admitted (standby self.old) ≡ true }
@@ -66,14 +102,14 @@ impl Node {
     }
 
     /// Gives the next page of the scan with this id: none where no such scan is open. It is closed by each page behind
-    /// which there is none.
+    /// which there is none, and where it was cancelled, of which the cause is told then.
     ///
     /// # Errors
     /// For want of memory; the node is as before then.
     #[tactic(auto, unfolding(crate::specs::View::standby))]
     pub fn next_page(&mut self, id: u64) -> Result<Option<NodePage>, NoMemory>
         ensures page { IfOk result (λ page. GivesPage id (scan_with id (standby self.old).scans) (standby self.old) page (standby self.new)) }
-        ensures described { IfOk result (λ page. IfSome page (λ given. given.table < length (standby self.old).tables.tables)) }
+        ensures described { IfOk result (λ page. IfSome page (IsGivenBelow (length (standby self.old).tables.tables))) }
         ensures err { OnErr result (standby self.new ≡ standby self.old) }
     {
         self.scans
@@ -93,7 +129,7 @@ impl Node {
         text: &mut Vec<u8>,
     ) -> Result<Option<PrintedPage>, NoMemory>
         ensures page { IfOk result (λ page. PrintsPage id (scan_with id (standby self.old).scans) (standby self.old) page (standby self.new) head.now text.old.items text.new.items) }
-        ensures described { IfOk result (λ page. IfSome page (λ printed. printed.table < length (standby self.old).tables.tables)) }
+        ensures described { IfOk result (λ page. IfSome page (IsPrintedBelow (length (standby self.old).tables.tables))) }
         ensures err { OnErr result (standby self.new ≡ standby self.old) }
     {
         self.scans

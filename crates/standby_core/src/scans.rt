@@ -1,12 +1,15 @@
 ghost use Rattle.std.specs.Prelude.{◌≡◌, ◌≤◌, ◌+◌, ◌^◌, length};
 ghost use Rattle.standby_core.specs.Scans.{is_more};
 
+use crate::conflicts::cancel;
 use crate::types::NodeStatus;
 use page_store::Pool;
-use pg_types::{Lsn, NoMemory};
+use pg_types::{Lsn, NoMemory, Xid};
+use recovery_conflict::Cause;
 use seq_scan::{PageEnd, Rows, Scan};
 use std::alloc::Global;
 use table_schema::Tables;
+use wal_bodies::Rec;
 use xact_redo::XactState;
 
 /// The most scans that are open at once.
@@ -26,28 +29,38 @@ pub enum Opened {
     TooMany,
     /// The standby, which stands so, does not admit scans.
     NotAdmitted(NodeStatus),
+    /// The record that starts there dropped the table's file.
+    Gone { lsn: Lsn },
+    /// A transaction holds an access exclusive lock of the table, which the record that starts there told.
+    Locked { lsn: Lsn, xid: Xid },
 }
 
-/// What the next page of a scan is: the number of its table, its rows and how they end.
+/// What the next page of a scan is: the number of its table, its rows and how they end; or why the scan was cancelled.
 #[derive(Drop)]
-pub struct NodePage {
-    pub table: u16,
-    pub rows: Rows,
-    pub end: PageEnd,
+pub enum NodePage {
+    Given {
+        table: u16,
+        rows: Rows,
+        end: PageEnd,
+    },
+    Cancelled {
+        cause: Cause,
+    },
 }
 
-/// How a page ends whose rows were printed, with the number of its table.
+/// How a page ends whose rows were printed, with the number of its table; or why the scan was cancelled.
 #[derive(Clone, Copy)]
-pub struct PrintedPage {
-    pub table: u16,
-    pub end: PageEnd,
+pub enum PrintedPage {
+    Given { table: u16, end: PageEnd },
+    Cancelled { cause: Cause },
 }
 
-/// A scan with its id.
+/// A scan with its id, and why it is cancelled, if it is. It is told so when its next page is asked for.
 #[derive(Drop)]
 pub struct NodeScan {
     pub id: u64,
     pub scan: Scan,
+    pub cause: Option<Cause>,
 }
 
 /// The open scans, in the order of their opening, and the id of the next one.
@@ -60,14 +73,16 @@ pub struct Scans {
 }
 
 impl Scans {
-    ghost use Rattle.std.specs.Prelude.{◌<◌, ◌||◌, ◌++◌, ◌∷◌, [], nat_le, nat_lt, is_some, IfSome, OnErr, OnOk, IfOk, if◌then◌else◌};
+    ghost use Rattle.std.specs.Prelude.{◌<◌, ◌||◌, ◌++◌, None, ◌∷◌, [], get_or, nat_le, nat_lt, is_some, IfSome, OnErr, OnOk, IfOk, if◌then◌else◌};
     ghost use Rattle.std.specs.List.{remove};
     ghost use Rattle.page_store.specs.Content.{content, table_count};
     ghost use Rattle.page_store.specs.Seen.{view_of};
     ghost use Rattle.table_schema.specs.Description.{first_that};
     ghost use Rattle.xact_redo.specs.State.{transactions};
     ghost use Rattle.standby_core.specs.Standby.{Standby};
-    ghost use Rattle.standby_core.specs.Scans.{GivesPage, PrintsPage, scan_with, without};
+    ghost use Rattle.standby_core.specs.declared.scans.NodeScan.{NodeScan};
+    ghost use Rattle.standby_core.specs.Conflicts.{cancelled_by, newly_cancelled};
+    ghost use Rattle.standby_core.specs.Scans.{GivesPage, IsGivenBelow, IsPrintedBelow, PrintsPage, scan_with, without};
     ghost use Rattle.standby_core.specs.Pages.{AreDescribed, ReadsFrom, has_id, with_scans};
 
     /// None are open, and the next id is 1. It takes no memory.
@@ -103,19 +118,39 @@ impl Scans {
         requires room { length self.old.open.items < 64 }
         requires ids { self.old.next_id ≤ 2 ^ 63 }
         ensures id { IfOk result (λ id. id ≡ self.old.next_id) }
-        ensures open { OnOk result (self.new.open.items ≡ self.old.open.items ++ record { id = self.old.next_id; scan = scan } ∷ []) }
+        ensures open { OnOk result (self.new.open.items ≡ self.old.open.items ++ record { id = self.old.next_id; scan = scan; cause = None } ∷ []) }
         ensures next { OnOk result (self.new.next_id ≡ self.old.next_id + 1) }
         ensures still_open { OnErr result (self.new.open.items ≡ self.old.open.items) }
         ensures still_next { OnErr result (self.new.next_id ≡ self.old.next_id) }
     {
         let id = self.next_id;
-        self.open.push(NodeScan { id, scan })?;
+        self.open.push(NodeScan {
+            id,
+            scan,
+            cause: None,
+        })?;
         self.next_id += 1;
         Ok(id)
     }
 
+    /// Gives each scan that has no cause yet the one that the record has to cancel it, if there is one, and answers
+    /// how many have got theirs. It takes no memory.
+    pub fn cancel(&mut self, rec: &Rec<'_>, tables: &Tables) -> u8
+        requires { AreDescribed tables.now self.old.open.items }
+        ensures open { self.new.open.items ≡ cancelled_by rec.now tables.now self.old.open.items }
+        ensures count { result ≡ newly_cancelled rec.now tables.now self.old.open.items }
+        ensures next { self.new.next_id ≡ self.old.next_id }
+        ensures still { AreDescribed tables.now self.new.open.items }
+    {
+        let mut count = 0;
+        for place in 0..self.open.len() {
+            count += u8::from(cancel(&mut self.open[place], rec, tables));
+        }
+        count
+    }
+
     /// Gives the next page of the scan with this id: none where no such scan is open. It is taken away by each page
-    /// behind which there is none.
+    /// behind which there is none, and where it was cancelled.
     ///
     /// # Errors
     /// For want of memory; nothing changes then.
@@ -131,7 +166,7 @@ impl Scans {
         requires pooled { table_count pool.old ≡ length tables.now.tables }
         ensures page { (node : Standby) → ReadsFrom node self.old.open.items tables.now (view_of (content pool.old)) (transactions state.now)
             → IfOk result (λ page. GivesPage id (scan_with id self.old.open.items) node page (with_scans node self.new.open.items)) }
-        ensures table { IfOk result (λ page. IfSome page (λ given. given.table < length tables.now.tables)) }
+        ensures table { IfOk result (λ page. IfSome page (IsGivenBelow (length tables.now.tables))) }
         ensures err { OnErr result (self.new.open.items ≡ self.old.open.items) }
         ensures next { self.new.next_id ≡ self.old.next_id }
         ensures still { AreDescribed tables.now self.new.open.items }
@@ -141,11 +176,18 @@ impl Scans {
         let Some(place) = self.place(id) else {
             return Ok(None);
         };
+        match self.cause_at(place) {
+            Some(cause) => {
+                let _ = self.open.remove(place);
+                return Ok(Some(NodePage::Cancelled { cause }));
+            }
+            None => {}
+        }
         let scan = &mut self.open[place].scan;
         let table = scan.table();
         let page = scan.next_page(alloc, pool, state, tables)?;
         self.keep(place, page.end);
-        Ok(Some(NodePage {
+        Ok(Some(NodePage::Given {
             table,
             rows: page.rows,
             end: page.end,
@@ -169,7 +211,7 @@ impl Scans {
         requires pooled { table_count pool.old ≡ length tables.now.tables }
         ensures page { (node : Standby) → ReadsFrom node self.old.open.items tables.now (view_of (content pool.old)) (transactions state.now)
             → IfOk result (λ page. PrintsPage id (scan_with id self.old.open.items) node page (with_scans node self.new.open.items) head.now text.old.items text.new.items) }
-        ensures table { IfOk result (λ page. IfSome page (λ printed. printed.table < length tables.now.tables)) }
+        ensures table { IfOk result (λ page. IfSome page (IsPrintedBelow (length tables.now.tables))) }
         ensures err { OnErr result (self.new.open.items ≡ self.old.open.items) }
         ensures next { self.new.next_id ≡ self.old.next_id }
         ensures still { AreDescribed tables.now self.new.open.items }
@@ -179,11 +221,18 @@ impl Scans {
         let Some(place) = self.place(id) else {
             return Ok(None);
         };
+        match self.cause_at(place) {
+            Some(cause) => {
+                let _ = self.open.remove(place);
+                return Ok(Some(PrintedPage::Cancelled { cause }));
+            }
+            None => {}
+        }
         let scan = &mut self.open[place].scan;
         let table = scan.table();
         let end = scan.print_page(pool, state, tables, head, text)?;
         self.keep(place, end);
-        Ok(Some(PrintedPage { table, end }))
+        Ok(Some(PrintedPage::Given { table, end }))
     }
 
     /// Takes the scan with this id away, and answers whether it was open. It takes no memory.
@@ -210,6 +259,14 @@ impl Scans {
             }
         }
         None
+    }
+
+    /// Why the scan at this place is cancelled, if it is.
+    fn cause_at(&self, place: usize) -> Option<Cause>
+        requires { place < length self.now.open.items }
+        ensures { (other : NodeScan) → result ≡ (get_or self.now.open.items place other).cause }
+    {
+        self.open[place].cause
     }
 
     /// Takes the scan at this place away, whose page ended so, unless there is more to be given.

@@ -18,8 +18,9 @@ pub struct Origin {
 /// What came of replaying one record.
 #[derive(Clone, Copy)]
 pub enum Replayed {
-    /// The record that starts there was applied, and the node stands at its end.
-    Applied { start: Lsn, at: Lsn },
+    /// The record that starts there was applied, and the node stands at its end; so many open scans are
+    /// cancelled by it.
+    Applied { start: Lsn, at: Lsn, cancelled: u8 },
     /// No record stands at the node's position, by the first rule that fails.
     AtEnd { lsn: Lsn, why: EndWhy },
     /// The record at the node's position is refused, and the node stays there.
@@ -81,6 +82,14 @@ impl From<NoMemory> for NodeFault {
     fn from(_: NoMemory) -> NodeFault {
         NodeFault::Memory
     }
+}
+
+/// What is left to be told of a record that was redone: where the backup began whose end is awaited after it, and
+/// how many scans it cancelled.
+#[derive(Clone, Copy)]
+pub(crate) struct Passed {
+    pub awaited: Option<Lsn>,
+    pub cancelled: u8,
 }
 
 /// Why a record that was read is not applied.

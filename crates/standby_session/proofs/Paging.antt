@@ -1,98 +1,98 @@
 -- Pages of a scan that are read and written one after the other.
-use Rattle.std.proofs.Common.{◌≡◌, ◌⊎◌, ℕ, ◌+◌, ◌-◌, ◌<◌, Bool, true, false, ◌&&◌, ◌==◌, List, [], ◌∷◌, ◌++◌, Option, None, Some, Result, Ok, Err, inl, inr, refl, ap, sym, ◌∙◌, subst, append_assoc, append-nil, arith, nat_lt, if◌then◌else◌}
+use Rattle.std.proofs.Common.{◌≡◌, ◌⊎◌, ℕ, ◌+◌, ◌-◌, ◌<◌, Bool, true, false, ◌&&◌, ◌==◌, List, [], ◌∷◌, ◌++◌, Option, None, Some, Ok, Err, inl, inr, refl, ap, sym, ◌∙◌, subst, append-nil, arith, if◌then◌else◌}
 use Rattle.std.specs.Prelude.{codes}
 use Rattle.std.proofs.lemmas.Bool.{and_parts}
 use Rattle.std.proofs.lemmas.Bool.Decides.{nat_tests}
 use Rattle.std.proofs.lemmas.List.Concat.{flat_map-append}
-use Rattle.outside.specs.Sink.{Appends, AppendsNothing, AppendsPrefix}
-use Rattle.table_schema.specs.Description.{Description, DescribedTable}
-use Rattle.table_schema.specs.Tables.{table_with}
-use Rattle.seq_scan.specs.BlockRows.{BlockEnd, BlockRows}
-use Rattle.seq_scan.specs.Scans.{OpenScan, after_page, end_at, end_of_page, has_more, has_next}
+use Rattle.outside.specs.Sink.{Appends}
+use Rattle.table_schema.specs.Description.{Description}
+use Rattle.seq_scan.specs.Scans.{OpenScan, after_page, end_of_page, has_more, has_next}
+use Rattle.recovery_conflict.specs.declared.locks.Cause.{Cause}
 use Rattle.standby_core.specs.declared.scans.NodeScan.{NodeScan}
 use Rattle.standby_core.specs.declared.scans.PrintedPage.{PrintedPage}
+use Rattle.standby_core.specs.declared.scans.PrintedPage.TheVariants as shown
 use Rattle.standby_core.specs.Standby.{Standby}
-use Rattle.standby_core.specs.Scans.{PrintsPage, is_whole, moved_on, node_page, scan_with, without}
+use Rattle.standby_core.specs.Scans.{PrintsPage, PrintsUnlessCancelled, is_whole, moved_on, node_page, scan_with, without}
 use Rattle.session_model.specs.Answers.{Steps}
-use Rattle.session_model.specs.Events.{Reply, Next, Page}
-use Rattle.session_model.specs.NodeSteps.{NodeStep, Reads, bare}
+use Rattle.session_model.specs.Events.{Reply, Next}
+use Rattle.session_model.specs.NodeSteps.{NodeStep, bare}
 use Rattle.session_model.specs.Scans.{ReadsOut, ReadsSome, is_more, page_status, pages_text}
 use Rattle.session_model.specs.Texts.{reply_text}
-use Rattle.standby_session.specs.Scanning.{IsLast, IsLastPage, PageLeaves, PushesPage, ReadsFirstPages, ReadsPages, WritesPage, WritesPagePrefix, Wrote, WrotePages, left_in, left_of}
+use Rattle.standby_session.specs.Printed.{SaysLast}
+use Rattle.standby_session.specs.Scanning.{IsLastPrinted, PageLeaves, PushesPage, ReadsFirstPages, ReadsPages, WritesPage, Wrote, WrotePages, left_in, left_of}
 use Rattle.standby_session.specs.declared.fault.SessionFault.{SessionFault}
 use Rattle.standby_session.specs.declared.fault.SessionFault.TheVariants as fault
 use Rattle.standby_session.proofs.Appending.{appends_both, appends_prefix, nothing_appended, nothing_more}
-use Rattle.standby_session.proofs.Replies.{EndsBy, page_says}
-
--- whether a page that ends so is the last one, whatever block it is of
-abbrev pub IsLastBy : PrintedPage → Option ℕ → Type 0
-IsLastBy page last = (block : ℕ) (more : Bool) (end : BlockEnd) → page.end ≡ end_at block more end → IsLastPage last more end
-
-last_is :
-    (id : ℕ) (table : DescribedTable) (block : ℕ) (more : Bool) (rows : BlockRows) (last : Option ℕ) → IsLastPage last more rows.end
-    → IsLast last (Page id table block more rows)
-last_is id table block more rows None p = p
-last_is id table block more rows (Some status) p = p
+use Rattle.standby_session.proofs.Replies.{reply_of}
 
 pub page_pushed :
-    (id : ℕ) (scan : Option OpenScan) (old new : Standby) (tables : Description) (page : PrintedPage) (before mid now : List ℕ) (last : Option ℕ)
-    → PrintsPage id scan old (Some page) new (codes "row ") before mid → tables ≡ new.tables → EndsBy id tables page mid now
-    → IsLastBy page last → PushesPage id scan old new before now last
-page_pushed id None old new tables page before mid now last (none, e, text) same ends by = absurd (cc)
-page_pushed id (Some scan) old new tables page before mid now last (some, e, text) same ends by =
-    let rows = node_page old scan in
-    let is : page ≡ record { table = scan.table; end = end_of_page scan rows } = cc in
-    record {
-      reply = Page id (table_with old.tables scan.table) scan.given (has_more scan) rows;
-      reads = (refl, ap bare e);
-      says = page_says id scan old tables page before mid now is text (same ∙ ap (λ (n : Standby). n.tables) e) ends;
-      is_last = last_is id (table_with old.tables scan.table) scan.given (has_more scan) rows last
-          (by scan.given (has_more scan) rows.end (ap (λ (p : PrintedPage). p.end) is));
-    }
+    (id : ℕ) (scan : Option NodeScan) (old new : Standby) (tables : Description) (page : PrintedPage) (before mid now : List ℕ) (last : Option ℕ)
+    → PrintsPage id scan old (Some page) new (codes "row ") before mid → tables ≡ new.tables → SaysLast id tables page mid now
+    → IsLastPrinted last page → PushesPage id scan old new before now last
+page_pushed id scan old new tables page before mid now last p same says by =
+    let is = reply_of id scan old new tables page before mid now p same says in
+    record { reply = is.reply; reads = is.reads; says = is.says; is_last = is.is_last last by }
 
 -- the scan that was given a page, among the others
+abbrev moved : NodeScan → NodeScan
+moved one = record one { scan = after_page one.scan }
+
 moved_at :
-    (b : Bool) (id : ℕ) (one : NodeScan) (scans : List NodeScan) (scan : OpenScan) → (if b then Some one.scan else scan_with id scans) ≡ Some scan
-    → (scan_with id scans ≡ Some scan → scan_with id (moved_on id scans) ≡ Some (after_page scan))
-    → (if b then Some (after_page one.scan) else scan_with id (moved_on id scans)) ≡ Some (after_page scan)
-moved_at true id one scans scan e later = let same : one.scan ≡ scan = cc in ap (λ (s : OpenScan). Some (after_page s)) same
-moved_at false id one scans scan e later = later e
+    (b : Bool) (id : ℕ) (one : NodeScan) (scans : List NodeScan) (found : NodeScan) → (if b then Some one else scan_with id scans) ≡ Some found
+    → (scan_with id scans ≡ Some found → scan_with id (moved_on id scans) ≡ Some (moved found))
+    → (if b then Some (moved one) else scan_with id (moved_on id scans)) ≡ Some (moved found)
+moved_at true id one scans found e later = let same : one ≡ found = cc in ap (λ (s : NodeScan). Some (moved s)) same
+moved_at false id one scans found e later = later e
 
 moved_in :
     (b : Bool) (id : ℕ) (one : NodeScan) (scans : List NodeScan) → (one.id == id) ≡ b
-    → scan_with id (if b then record one { scan = after_page one.scan } ∷ scans else one ∷ moved_on id scans)
-    ≡ (if b then Some (after_page one.scan) else scan_with id (moved_on id scans))
-moved_in true id one scans e = ap (λ (b : Bool). if b then Some (after_page one.scan) else scan_with id scans) e
-moved_in false id one scans e = ap (λ (b : Bool). if b then Some one.scan else scan_with id (moved_on id scans)) e
+    → scan_with id (if b then moved one ∷ scans else one ∷ moved_on id scans)
+    ≡ (if b then Some (moved one) else scan_with id (moved_on id scans))
+moved_in true id one scans e = ap (λ (b : Bool). if b then Some (moved one) else scan_with id scans) e
+moved_in false id one scans e = ap (λ (b : Bool). if b then Some one else scan_with id (moved_on id scans)) e
 
 moved_found :
-    (id : ℕ) (scans : List NodeScan) (scan : OpenScan) → scan_with id scans ≡ Some scan → scan_with id (moved_on id scans) ≡ Some (after_page scan)
-moved_found id [] scan e = absurd (cc)
-moved_found id (one ∷ scans) scan e =
-    moved_in ((one.id == id)) id one scans refl ∙ moved_at ((one.id == id)) id one scans scan e (moved_found id scans scan)
+    (id : ℕ) (scans : List NodeScan) (found : NodeScan) → scan_with id scans ≡ Some found → scan_with id (moved_on id scans) ≡ Some (moved found)
+moved_found id [] found e = absurd (cc)
+moved_found id (one ∷ scans) found e =
+    moved_in ((one.id == id)) id one scans refl ∙ moved_at ((one.id == id)) id one scans found e (moved_found id scans found)
 
 -- a block less is left of it
-left_after : (scan : OpenScan) → has_more scan ≡ true → left_in (Some (after_page scan)) < left_in (Some scan)
+left_after : (scan : OpenScan) → has_more scan ≡ true → (after_page scan).blocks - (after_page scan).given < scan.blocks - scan.given
 left_after scan more =
     let further : scan.given + 1 < scan.blocks = grind (arith, nat_tests) in
     let next : has_next scan ≡ true = grind (arith, nat_tests) in
     let is : after_page scan ≡ record scan { given = scan.given + 1 } = ap (λ (b : Bool). if b then record scan { given = scan.given + 1 } else scan) next in
-    subst (λ (s : OpenScan). left_in (Some s) < left_in (Some scan)) (sym is) (omega arith)
+    subst (λ (s : OpenScan). s.blocks - s.given < scan.blocks - scan.given) (sym is) (omega arith)
 
-pub page_onward :
-    (id : ℕ) (scan : Option OpenScan) (old new : Standby) (page : PrintedPage) (head before mid : List ℕ) → scan_with id old.scans ≡ scan
-    → PrintsPage id scan old (Some page) new head before mid → IsLastBy page None → left_of id new < left_in scan
-page_onward id None old new page head before mid found (none, e, text) by = absurd (cc)
-page_onward id (Some scan) old new page head before mid found (some, e, text) by =
-    let rows = node_page old scan in
-    let is : page ≡ record { table = scan.table; end = end_of_page scan rows } = cc in
-    let more : (has_more scan && is_whole rows.end) ≡ true = by scan.given (has_more scan) rows.end (ap (λ (p : PrintedPage). p.end) is) in
+-- there is no page behind one that tells why its scan was cancelled
+never_more : (cause : Cause) → IsLastPrinted None (shown.Cancelled cause) → ⊥
+never_more cause e = absurd (cc)
+
+onward_by :
+    (id : ℕ) (one : NodeScan) (cause : Option Cause) (old new : Standby) (page : PrintedPage) (head before mid : List ℕ)
+    → scan_with id old.scans ≡ Some one → PrintsUnlessCancelled id cause one.scan old (Some page) new head before mid
+    → IsLastPrinted None page → left_of id new < left_in (Some one)
+onward_by id one (Some cause) old new page head before mid found (some, e, text) by =
+    let is : page ≡ shown.Cancelled cause = cc in
+    absurd (never_more cause (subst (λ (p : PrintedPage). IsLastPrinted None p) is by))
+onward_by id one None old new page head before mid found (some, e, text) by =
+    let rows = node_page old one.scan in
+    let is : page ≡ shown.Given one.scan.table (end_of_page one.scan rows) = cc in
+    let more : (has_more one.scan && is_whole rows.end) ≡ true =
+    subst (λ (p : PrintedPage). IsLastPrinted None p) is by one.scan.given (has_more one.scan) rows.end refl in
     let scans : new.scans ≡ moved_on id old.scans =
     ap (λ (n : Standby). n.scans) e ∙ ap (λ (b : Bool). if b then moved_on id old.scans else without id old.scans) more in
-    let now : scan_with id new.scans ≡ Some (after_page scan) =
-    ap (λ (s : List NodeScan). scan_with id s) scans ∙ moved_found id old.scans scan found in
-    subst (λ (o : Option OpenScan). left_in o < left_in (Some scan)) (sym now)
-    (left_after scan (and_parts (has_more scan) (is_whole rows.end) more).0)
+    let now : scan_with id new.scans ≡ Some (moved one) =
+    ap (λ (s : List NodeScan). scan_with id s) scans ∙ moved_found id old.scans one found in
+    subst (λ (o : Option NodeScan). left_in o < left_in (Some one)) (sym now)
+    (left_after one.scan (and_parts (has_more one.scan) (is_whole rows.end) more).0)
+
+pub page_onward :
+    (id : ℕ) (scan : Option NodeScan) (old new : Standby) (page : PrintedPage) (head before mid : List ℕ) → scan_with id old.scans ≡ scan
+    → PrintsPage id scan old (Some page) new head before mid → IsLastPrinted None page → left_of id new < left_in scan
+page_onward id None old new page head before mid found (none, e, text) by = absurd (cc)
+page_onward id (Some one) old new page head before mid found p by = onward_by id one one.cause old new page head before mid found p by
 
 module _ {S : Type 0} (step : Steps S) where
   pub reads_on :

@@ -1,12 +1,9 @@
 -- A scan: replay to the log's end, its opening, and its pages.
-use Rattle.std.proofs.Common.{◌≡◌, ◌⊎◌, ℕ, ◌+◌, Bool, true, false, List, [], ◌∷◌, ◌++◌, Option, None, Some, Result, Ok, Err, inl, inr, refl, ap, sym, ◌∙◌, subst, append_assoc, append-nil}
-use Rattle.std.specs.Prelude.{IfSome}
+use Rattle.std.proofs.Common.{◌≡◌, ◌⊎◌, ℕ, ◌+◌, List, [], ◌++◌, Option, None, Some, Result, Ok, Err, inl, inr, refl, ap, sym, ◌∙◌, subst, append-nil}
 use Rattle.pg_types.specs.declared.names.Lsn.{Lsn}
-use Rattle.outside.specs.Sink.{Appends, AppendsNothing, AppendsPrefix}
-use Rattle.wal_reader.specs.Kept.{AreTold}
+use Rattle.outside.specs.Sink.{Appends, AppendsPrefix}
 use Rattle.wal_reader.specs.declared.types.EndWhy.{EndWhy}
 use Rattle.standby_core.specs.declared.types.Refusal.{Refusal}
-use Rattle.standby_core.specs.declared.types.Replayed.{Replayed}
 use Rattle.standby_core.specs.declared.types.Replayed.TheVariants as replayed
 use Rattle.standby_core.specs.declared.scans.Opened.{Opened as OpenedBy}
 use Rattle.standby_core.specs.declared.scans.Opened.TheVariants as opened
@@ -15,12 +12,12 @@ use Rattle.standby_core.specs.Replay.{StaysUnlessApplied}
 use Rattle.standby_core.specs.Scans.{Opens}
 use Rattle.standby_core.specs.View.{ReplaysTold}
 use Rattle.session_model.specs.Answers.{Steps}
-use Rattle.session_model.specs.Events.{Reply, Open, AtEnd, Opened, Refused, is_applied}
-use Rattle.session_model.specs.NodeSteps.{NodeStep, bare, opening_reply, replay_reply}
-use Rattle.session_model.specs.Scans.{IsFrontOfScan, IsScan, ReadsFirst, ReadsOpened, ReadsOut, ReplaysAll, ScansTable, pages_text, refused_text}
+use Rattle.session_model.specs.Events.{Reply, Open, AtEnd, Opened, Refused}
+use Rattle.session_model.specs.NodeSteps.{NodeStep, bare, opening_reply}
+use Rattle.session_model.specs.Scans.{IsFrontOfScan, IsScan, ReadsOpened, ReadsOut, ReplaysAll, ScansTable, refused_text}
 use Rattle.session_model.specs.Texts.{reply_text}
 use Rattle.standby_session.specs.Scanned.{ScanLeft, ScanLeftTold}
-use Rattle.standby_session.specs.Scanning.{FrontBehind, FrontOfTable, OpenedLeaves, PagesLeave, ReadsFirstPages, ReplaysTo, ReplaysToTold, TableLeaves, WroteRefused, WroteText, Wrote}
+use Rattle.standby_session.specs.Scanning.{FrontBehind, FrontOfTable, OpenedLeaves, PagesLeave, ReadsFirstPages, ReplaysToTold, TableLeaves, WroteRefused, WroteText, Wrote}
 use Rattle.standby_session.specs.declared.fault.SessionFault.{SessionFault}
 use Rattle.standby_session.specs.declared.fault.SessionFault.TheVariants as fault
 use Rattle.standby_session.proofs.Appending.{appends_both, appends_prefix, nothing_appended, nothing_more}
@@ -79,6 +76,10 @@ no_scan : (o : OpenedBy) → ((id : ℕ) (at : Lsn) → o ≡ opened.Scan id at 
 no_scan (opened.Scan id at) other node now = absurd (other id at refl)
 no_scan opened.NoTable other node now = λ byte. ([], (append-nil (reply_text (opening_reply opened.NoTable)), refl), nothing_appended now)
 no_scan opened.TooMany other node now = λ byte. ([], (append-nil (reply_text (opening_reply opened.TooMany)), refl), nothing_appended now)
+no_scan (opened.Gone lsn) other node now =
+    λ byte. ([], (append-nil (reply_text (opening_reply (opened.Gone lsn))), refl), nothing_appended now)
+no_scan (opened.Locked lsn xid) other node now =
+    λ byte. ([], (append-nil (reply_text (opening_reply (opened.Locked lsn xid))), refl), nothing_appended now)
 no_scan (opened.NotAdmitted status) other node now =
     λ byte. ([], (append-nil (reply_text (opening_reply (opened.NotAdmitted status))), refl), nothing_appended now)
 
@@ -217,10 +218,10 @@ replay_refused bytes later begin old new lsn what e (count, p) stays q =
 
 -- one more record was applied
 pub replay_more :
-    (bytes later : Option (ℕ → Option ℕ)) (begin old new : Standby) (start at : Lsn) → later ≡ bytes
-    → (count : ℕ) × AppliedTold bytes count begin old → ReplaysTold later (Ok (replayed.Applied start at)) old new
+    (bytes later : Option (ℕ → Option ℕ)) (begin old new : Standby) (start at : Lsn) (cancelled : ℕ) → later ≡ bytes
+    → (count : ℕ) × AppliedTold bytes count begin old → ReplaysTold later (Ok (replayed.Applied start at cancelled)) old new
     → (count : ℕ) × AppliedTold bytes count begin new
-replay_more bytes later begin old new start at e (count, p) q = (count + 1, applied_more bytes later count begin old new (replayed.Applied start at) e refl p tt q)
+replay_more bytes later begin old new start at cancelled e (count, p) q = (count + 1, applied_more bytes later count begin old new (replayed.Applied start at cancelled) e refl p tt q)
 
 pub replay_none : (bytes : Option (ℕ → Option ℕ)) (node : Standby) → (count : ℕ) × AppliedTold bytes count node node
 replay_none bytes node = (0, applied_none bytes node)

@@ -4,10 +4,11 @@ use Rattle.wal_archive.specs.ArchiveLog.{archived_bytes}
 use Rattle.wal_bodies.specs.declared.types.Rec.{Rec}
 use Rattle.page_store.specs.Seen.{View}
 use Rattle.heap_redo.specs.declared.fault.RedoFault.{RedoFault}
-use Rattle.heap_redo.specs.Redone.{redone}
+use Rattle.heap_redo.specs.Redone.{redone_record}
 use Rattle.pg_types.specs.declared.names.Lsn.{Lsn}
 use Rattle.table_schema.specs.Description.{locators}
 use Rattle.table_schema.specs.Tables.{number_named}
+use Rattle.recovery_conflict.specs.declared.locks.HeldLock.{HeldLock}
 use Rattle.standby_model.specs.Log as log
 use Rattle.standby_model.specs.Log.{Stop, record_at}
 use Rattle.standby_core.specs.declared.types.Replayed.{Replayed}
@@ -16,7 +17,7 @@ use Rattle.standby_core.specs.declared.types.Refusal.{Refusal}
 use Rattle.standby_core.specs.declared.scans.Opened.{Opened}
 use Rattle.standby_core.specs.Standby.{Standby, described_to, node_status, told_to}
 use Rattle.standby_core.specs.Replay.{IsApplied, IsRefusedAs, by_blocks, by_record, Replays, StaysUnlessApplied}
-use Rattle.standby_core.specs.Scans.{Opens, OpensAdmitted, OpensTable, OpensUnlessCrowded, is_admitted, is_crowded}
+use Rattle.standby_core.specs.Scans.{Opens, OpensAdmitted, OpensTable, OpensUnlessCrowded, OpensUnlessGone, OpensUnlessLocked, gone_since, is_admitted, is_crowded, lock_of}
 use Rattle.standby_core.specs.View.{ReplaysTold}
 use Rattle.session_model.specs.Events as event
 use Rattle.session_model.specs.Events.{Reply, AsksStatus, ReplayOne, Applied as IsAppliedAt, is_applied, is_trouble, Stands}
@@ -46,7 +47,7 @@ refused_bare old new found what stays (by_record why e same blocks) =
     (ap (λ (w : Refusal). event.Refused old.at.0 w) (sym same), ap bare stays ∙ ap (λ (b : View). record (bare old) { blocks = b }) blocks)
 refused_bare old new found what stays (by_blocks rec fault e blocks same) =
     by_found found (Ok rec) (bare old) (event.Refused old.at.0 what) (bare new) e
-    (replays_blocks rec (redone rec (locators old.tables) rec.blocks old.blocks) new.blocks (Err fault) (bare old)
+    (replays_blocks rec (redone_record rec (locators old.tables) old.blocks) new.blocks (Err fault) (bare old)
     (event.Refused old.at.0 what) (bare new) blocks (what, same, refl, ap bare stays))
 
 applied_bare :
@@ -54,13 +55,13 @@ applied_bare :
     → ReplaysOne found (bare old) (event.Applied rec.end.0) (bare new)
 applied_bare old new found rec e is =
     by_found found (Ok rec) (bare old) (event.Applied rec.end.0) (bare new) e
-    (replays_blocks rec (redone rec (locators old.tables) rec.blocks old.blocks) new.blocks (Ok tt) (bare old)
+    (replays_blocks rec (redone_record rec (locators old.tables) old.blocks) new.blocks (Ok tt) (bare old)
     (event.Applied rec.end.0) (bare new) is.blocks (refl, ap bare is.others))
 
 one_bare :
     (old new : Standby) (found : Result Rec Stop) (last : Replayed) → StaysUnlessApplied (Ok last) old new → Replays (Ok last) old new found
     → ReplaysOne found (bare old) (replay_reply last) (bare new)
-one_bare old new found (replayed.Applied start at) stays (rec, e, is, starts, ends) =
+one_bare old new found (replayed.Applied start at cancelled) stays (rec, e, is, starts, ends, count) =
     subst (λ (l : Lsn). ReplaysOne found (bare old) (event.Applied l.0) (bare new)) ends (applied_bare old new found rec e is)
 one_bare old new found (replayed.AtEnd lsn why) stays (e, at, blocks) =
     by_found found (Err (log.Ended why)) (bare old) (event.AtEnd lsn.0 why) (bare new) e
@@ -95,7 +96,7 @@ more_by :
     (byte : ℕ → Option ℕ) (count : ℕ) (old mid new : Standby) (last : Replayed) → is_applied (replay_reply last) ≡ true
     → Applies (NodeStep byte) count (bare old) (bare mid) → NodeStep byte ReplayOne (bare mid) (replay_reply last) (bare new)
     → Applies (NodeStep byte) (suc count) (bare old) (bare new)
-more_by byte count old mid new (replayed.Applied start at) is p q = one_more byte count at.0 old mid new p q
+more_by byte count old mid new (replayed.Applied start at cancelled) is p q = one_more byte count at.0 old mid new p q
 more_by byte count old mid new (replayed.AtEnd lsn why) is p q = absurd (cc)
 more_by byte count old mid new (replayed.Refused lsn what) is p q = absurd (cc)
 
@@ -170,11 +171,23 @@ pub same_log :
 same_log new then_ size now e p = ap (λ (n : ℕ). archived_bytes new n) e ∙ p
 
 -- an opening of a node is one of the node without what it keeps
+opens_unlocked :
+    (lock : Option HeldLock) (old new : Standby) (table : ℕ) (opened : Opened) → OpensUnlessLocked lock old table opened new
+    → OpensUnlessLocked lock (bare old) table opened (bare new)
+opens_unlocked (Some held) old new table opened (says, now) = (says, ap bare now)
+opens_unlocked None old new table opened (count, blocks, says, now) = (count, blocks, says, ap bare now)
+
+opens_there :
+    (gone : Option Lsn) (old new : Standby) (table : ℕ) (opened : Opened) → OpensUnlessGone gone old table opened new
+    → OpensUnlessGone gone (bare old) table opened (bare new)
+opens_there (Some lsn) old new table opened (says, now) = (says, ap bare now)
+opens_there None old new table opened p = opens_unlocked (lock_of old table) old new table opened p
+
 opens_by :
     (admitted : Bool) (old new : Standby) (table : ℕ) (opened : Opened) → OpensAdmitted admitted old table opened new
     → OpensAdmitted admitted (bare old) table opened (bare new)
 unfolding node_status
-opens_by true old new table opened (count, blocks, says, now) = (count, blocks, says, ap bare now)
+opens_by true old new table opened p = opens_there (gone_since old table) old new table opened p
 opens_by false old new table opened (says, now) = (says, ap bare now)
 
 opens_unless :
@@ -195,8 +208,16 @@ opens_bare name old new opened p = opens_table (number_named old.tables name) ol
 abbrev pub Same : Standby → Standby → Type 0
 Same old new = (new.kept ≡ old.kept) × (new.segsize ≡ old.segsize)
 
+same_unlocked : (lock : Option HeldLock) (old new : Standby) (table : ℕ) (opened : Opened) → OpensUnlessLocked lock old table opened new → Same old new
+same_unlocked (Some held) old new table opened (says, now) = (ap (λ (n : Standby). n.kept) now, ap (λ (n : Standby). n.segsize) now)
+same_unlocked None old new table opened (count, blocks, says, now) = (ap (λ (n : Standby). n.kept) now, ap (λ (n : Standby). n.segsize) now)
+
+same_there : (gone : Option Lsn) (old new : Standby) (table : ℕ) (opened : Opened) → OpensUnlessGone gone old table opened new → Same old new
+same_there (Some lsn) old new table opened (says, now) = (ap (λ (n : Standby). n.kept) now, ap (λ (n : Standby). n.segsize) now)
+same_there None old new table opened p = same_unlocked (lock_of old table) old new table opened p
+
 same_admitted : (admitted : Bool) (old new : Standby) (table : ℕ) (opened : Opened) → OpensAdmitted admitted old table opened new → Same old new
-same_admitted true old new table opened (count, blocks, says, now) = (ap (λ (n : Standby). n.kept) now, ap (λ (n : Standby). n.segsize) now)
+same_admitted true old new table opened p = same_there (gone_since old table) old new table opened p
 same_admitted false old new table opened (says, now) = (ap (λ (n : Standby). n.kept) now, ap (λ (n : Standby). n.segsize) now)
 
 same_unless : (crowded : Bool) (old new : Standby) (table : ℕ) (opened : Opened) → OpensUnlessCrowded crowded old table opened new → Same old new

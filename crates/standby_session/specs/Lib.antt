@@ -1,4 +1,5 @@
 pub mod Answering
+pub mod Printed
 pub mod Answered
 pub mod Held
 pub mod Scanned

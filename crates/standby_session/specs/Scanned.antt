@@ -1,5 +1,5 @@
 -- What a scan that is run leaves: what was written, and why it ended.
-use Rattle.std.specs.Prelude.{◌≡◌, ◌⊎◌, ℕ, List, [], Option, IfSome, Result, Ok, Err}
+use Rattle.std.specs.Prelude.{◌⊎◌, ℕ, List, [], Option, IfSome, Result, Ok, Err}
 use Rattle.outside.specs.Sink.{Appends, AppendsPrefix}
 use Rattle.wal_reader.specs.Kept.{AreTold}
 use Rattle.standby_core.specs.Standby.{Standby}

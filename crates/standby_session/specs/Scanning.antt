@@ -4,10 +4,14 @@ use Rattle.pg_types.specs.declared.names.Lsn.{Lsn}
 use Rattle.outside.specs.Sink.{Appends, AppendsNothing, AppendsPrefix}
 use Rattle.wal_reader.specs.declared.types.EndWhy.{EndWhy}
 use Rattle.seq_scan.specs.BlockRows.{BlockEnd}
-use Rattle.seq_scan.specs.Scans.{OpenScan}
+use Rattle.seq_scan.specs.declared.scan.PageEnd.{PageEnd}
+use Rattle.seq_scan.specs.Scans.{end_at}
 use Rattle.standby_core.specs.declared.types.NodeFault.{NodeFault}
 use Rattle.standby_core.specs.declared.types.Refusal.{Refusal}
+use Rattle.standby_core.specs.declared.scans.NodeScan.{NodeScan}
 use Rattle.standby_core.specs.declared.scans.Opened.{Opened as OpenedBy}
+use Rattle.standby_core.specs.declared.scans.PrintedPage.{PrintedPage}
+use Rattle.standby_core.specs.declared.scans.PrintedPage.TheVariants as printed
 use Rattle.standby_core.specs.Scans.{is_whole, scan_with}
 use Rattle.standby_core.specs.Standby.{Standby}
 use Rattle.session_model.specs.Answers.{Steps}
@@ -52,9 +56,9 @@ WroteRefused at what before now result =
     Wrote (λ text status. (text ≡ refused_text at what) × (status ≡ 5)) (λ text. text ≡ []) before now result
 
 -- how many blocks of a scan are left
-abbrev pub left_in : Option OpenScan → ℕ
+abbrev pub left_in : Option NodeScan → ℕ
 left_in None = 0
-left_in (Some scan) = scan.blocks - scan.given
+left_in (Some one) = one.scan.blocks - one.scan.given
 
 -- of the open scan with this id
 abbrev pub left_of : ℕ → Standby → ℕ
@@ -65,31 +69,40 @@ abbrev pub IsLastPage : Option ℕ → Bool → BlockEnd → Type 0
 IsLastPage None more last = (more && is_whole last) ≡ true
 IsLastPage (Some status) more last = ((more && is_whole last) ≡ false) × (status ≡ end_status last)
 
+-- whatever block it is of
+abbrev pub IsLastAt : Option ℕ → PageEnd → Type 0
+IsLastAt status end = (block : ℕ) (more : Bool) (last : BlockEnd) → end ≡ end_at block more last → IsLastPage status more last
+
+-- a scan that was cancelled has no more pages
+abbrev pub IsLastPrinted : Option ℕ → PrintedPage → Type 0
+IsLastPrinted status (printed.Given table end) = IsLastAt status end
+IsLastPrinted status (printed.Cancelled cause) = status ≡ Some 1
+
 abbrev pub IsLast : Option ℕ → Reply → Type 0
 IsLast None reply = is_more reply ≡ true
 IsLast (Some status) reply = (is_more reply ≡ false) × (status ≡ page_status reply)
 
 -- the next page of the scan with this id, whose text stands behind what stood there
-pub record PushesPage (id : ℕ) (scan : Option OpenScan) (old new : Standby) (before now : List ℕ) (last : Option ℕ) : Type 0 where
+pub record PushesPage (id : ℕ) (scan : Option NodeScan) (old new : Standby) (before now : List ℕ) (last : Option ℕ) : Type 0 where
   pub reply : Reply
   pub reads : Reads id scan (bare old) reply (bare new)
   pub says : now ≡ before ++ reply_text reply
   pub is_last : IsLast last reply
 
 -- the next page was written
-pub record WritesPage (id : ℕ) (scan : Option OpenScan) (old new : Standby) (before now : Option (List ℕ)) (last : Option ℕ) : Type 0 where
+pub record WritesPage (id : ℕ) (scan : Option NodeScan) (old new : Standby) (before now : Option (List ℕ)) (last : Option ℕ) : Type 0 where
   pub reply : Reply
   pub reads : Reads id scan (bare old) reply (bare new)
   pub writes : Appends before now (reply_text reply)
   pub is_last : IsLast last reply
 
 -- or a prefix of it
-pub record WritesPagePrefix (id : ℕ) (scan : Option OpenScan) (old new : Standby) (before now : Option (List ℕ)) : Type 0 where
+pub record WritesPagePrefix (id : ℕ) (scan : Option NodeScan) (old new : Standby) (before now : Option (List ℕ)) : Type 0 where
   pub reply : Reply
   pub reads : Reads id scan (bare old) reply (bare new)
   pub writes : AppendsPrefix before now (reply_text reply)
 
-abbrev pub PageLeaves : ℕ → Option OpenScan → Standby → Standby → Option (List ℕ) → Option (List ℕ) → Result (Option ℕ) SessionFault → Type 0
+abbrev pub PageLeaves : ℕ → Option NodeScan → Standby → Standby → Option (List ℕ) → Option (List ℕ) → Result (Option ℕ) SessionFault → Type 0
 PageLeaves id scan old new before now (Ok last) = WritesPage id scan old new before now last
 PageLeaves id scan old new before now (Err fault.Sink) = WritesPagePrefix id scan old new before now
 PageLeaves id scan old new before now (Err fault.Memory) = AppendsNothing before now

@@ -1,27 +1,21 @@
-ghost use Rattle.std.specs.Prelude.{◌≡◌, ◌≢◌, ◌<◌, ◌≤◌, ◌-◌, ◌++◌, ℕ, Bool, false, Err, IfOk, OnOk, length, if◌then◌else◌};
+ghost use Rattle.std.specs.Prelude.{◌≡◌, ◌≢◌, ◌≤◌, ◌-◌, ◌++◌, false, Err, IfOk, OnOk, if◌then◌else◌};
 ghost use Rattle.outside.specs.Faults.{Rose};
 ghost use Rattle.wal_archive.specs.ArchiveLog.{archived_bytes};
 ghost use Rattle.standby_core.specs.View.{standby};
 ghost use Rattle.session_text.specs.Meaning.{asked};
 ghost use Rattle.session_text.specs.Requests as requests;
-ghost use Rattle.seq_scan.specs.BlockRows.{BlockEnd};
-ghost use Rattle.seq_scan.specs.Scans.{end_at};
-ghost use Rattle.table_schema.specs.Tables.{table_with};
-ghost use Rattle.session_model.specs.Events.{NoScan, is_applied, is_damage, is_trouble};
+ghost use Rattle.session_model.specs.Events.{NoScan, is_applied, is_trouble};
 ghost use Rattle.session_model.specs.NodeSteps.{replay_reply};
-ghost use Rattle.session_model.specs.Texts.{end_line, reply_text};
+ghost use Rattle.session_model.specs.Texts.{reply_text};
 ghost use Rattle.standby_session.specs.Answering.{AnswersAnyhow, AnswersTold, AsksSome, ReplaysTold};
 
+use crate::page::{is_damaged, push_last_line};
 use outside::Archive;
 use pg_types::NoMemory;
-use reply_text::{
-    push_closed, push_error_line, push_opened, push_page_end, push_replays, push_status,
-};
-use seq_scan::PageEnd;
+use reply_text::{push_closed, push_error_line, push_opened, push_replays, push_status};
 use session_text::Request;
-use standby_core::{Node, NodeFault, PrintedPage, Replayed};
+use standby_core::{Node, NodeFault, Replayed};
 use std::alloc::Global;
-use table_schema::Tables;
 
 /// Answers a request: appends the answer's lines to `text`, and answers whether a record was refused or a scan met
 /// damage.
@@ -192,7 +186,10 @@ fn push_page(alloc: Global, id: u64, node: &mut Node, text: &mut Vec<u8>) -> Res
     match node.print_page(id, b"row ", text) {
         Err(fault) => Err(fault),
         Ok(None) => push_no_scan(text),
-        Ok(Some(page)) => push_last_line(alloc, id, &page, node.tables(), text),
+        Ok(Some(page)) => match push_last_line(alloc, id, &page, node.tables(), text) {
+            Err(fault) => Err(fault),
+            Ok(()) => Ok(is_damaged(&page)),
+        },
     }
 }
 
@@ -204,23 +201,4 @@ fn push_no_scan(text: &mut Vec<u8>) -> Result<bool, NoMemory>
 {
     text.extend_from_slice(b"no scan\n")?;
     Ok(false)
-}
-
-/// Appends how a page ends, and answers whether it met damage.
-fn push_last_line(
-    alloc: Global,
-    id: u64,
-    page: &PrintedPage,
-    tables: &Tables,
-    text: &mut Vec<u8>,
-) -> Result<bool, NoMemory>
-    requires { page.now.table < length tables.now.tables }
-    ensures told { OnOk result ((block : ℕ) (more : Bool) (last : BlockEnd) → page.now.end ≡ end_at block more last
-        → text.new.items ≡ text.old.items ++ end_line id (table_with tables.now page.now.table) block more last) }
-    ensures damage { IfOk result (λ damaged. (block : ℕ) (more : Bool) (last : BlockEnd) → page.now.end ≡ end_at block more last → damaged ≡ is_damage last) }
-{
-    match push_page_end(alloc, tables, id, page.table, page.end, text) {
-        Err(fault) => Err(fault),
-        Ok(()) => Ok(matches!(page.end, PageEnd::Damaged { .. })),
-    }
 }

@@ -3,6 +3,7 @@
 
 mod answer;
 mod fault;
+mod page;
 mod scan;
 mod session;
 

@@ -1,20 +1,19 @@
-ghost use Rattle.std.specs.Prelude.{◌≡◌, ◌≢◌, ◌<◌, ◌≤◌, ◌⊎◌, ◌++◌, ℕ, Bool, [], Err, IfOk, IfSome, None, Ok, OnOk};
+ghost use Rattle.std.specs.Prelude.{◌≡◌, ◌≢◌, ◌<◌, ◌≤◌, ◌⊎◌, ◌++◌, [], Err, IfOk, IfSome, None, Ok, OnOk};
 ghost use Rattle.outside.specs.Faults.{Rose};
 ghost use Rattle.wal_archive.specs.ArchiveLog.{archived_bytes};
-ghost use Rattle.seq_scan.specs.BlockRows.{BlockEnd};
-ghost use Rattle.seq_scan.specs.Scans.{end_at};
 ghost use Rattle.standby_core.specs.Scans.{scan_with};
 ghost use Rattle.standby_core.specs.View.{standby};
 ghost use Rattle.session_model.specs.Scans.{refused_text};
 ghost use Rattle.standby_session.specs.Scanned.{ScanLeftTold};
-ghost use Rattle.standby_session.specs.Scanning.{IsLastPage, OpenedLeaves, PageLeaves, PagesLeave, PushesPage, ReplaysToTold, TableLeaves, WroteRefused, WroteText, left_of};
+ghost use Rattle.standby_session.specs.Scanning.{IsLastAt, IsLastPrinted, OpenedLeaves, PageLeaves, PagesLeave, PushesPage, ReplaysToTold, TableLeaves, WroteRefused, WroteText, left_of};
 
 use crate::fault::SessionFault;
+use crate::page::push_last_line;
 use outside::{Archive, Sink};
 use pg_types::{Fail, Lsn, NoMemory};
-use reply_text::{push_closed, push_opened, push_page_end, push_refusal};
+use reply_text::{push_closed, push_opened, push_refusal};
 use seq_scan::PageEnd;
-use standby_core::{Node, NodeFault, Opened, Refusal, Replayed};
+use standby_core::{Node, NodeFault, Opened, PrintedPage, Refusal, Replayed};
 use std::alloc::Global;
 
 /// Scans the table with this name: replays the archive's log to its end, opens a scan, and reads it page by page; the
@@ -169,6 +168,8 @@ fn write_opened<O: Sink>(
         Opened::NoTable => Ok(1),
         Opened::TooMany => Ok(1),
         Opened::NotAdmitted(_) => Ok(1),
+        Opened::Gone { .. } => Ok(1),
+        Opened::Locked { .. } => Ok(1),
     }
 }
 
@@ -244,23 +245,27 @@ fn push_page(
             Err(fault) => Err(fault),
             Ok(()) => Ok(Some(1)),
         },
-        Ok(Some(page)) => match push_page_end(
-            alloc,
-            node.tables(),
-            id,
-            page.table,
-            page.end,
-            text,
-        ) {
+        Ok(Some(page)) => match push_last_line(alloc, id, &page, node.tables(), text) {
             Err(fault) => Err(fault),
-            Ok(()) => Ok(status_behind(page.end)),
+            Ok(()) => Ok(status_behind(&page)),
         },
     }
 }
 
+/// The exit status of a scan of which a page was printed so; none where there are more pages.
+fn status_behind(page: &PrintedPage) -> Option<u8>
+    ensures last { IsLastPrinted result page.now }
+    ensures status { IfSome result (λ status. (status ≡ 0) ⊎ ((status ≡ 1) ⊎ (status ≡ 5))) }
+{
+    match page {
+        PrintedPage::Given { end, .. } => status_at(*end),
+        PrintedPage::Cancelled { .. } => Some(1),
+    }
+}
+
 /// The exit status of a scan whose last page ends so; none where there are more pages.
-fn status_behind(end: PageEnd) -> Option<u8>
-    ensures last { (block : ℕ) (more : Bool) (last : BlockEnd) → end ≡ end_at block more last → IsLastPage result more last }
+fn status_at(end: PageEnd) -> Option<u8>
+    ensures last { IsLastAt result end }
     ensures status { IfSome result (λ status. (status ≡ 0) ⊎ ((status ≡ 1) ⊎ (status ≡ 5))) }
 {
     match end {

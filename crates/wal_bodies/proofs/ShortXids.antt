@@ -1,5 +1,5 @@
 -- The transaction ids of a record's main data are of 32 bits.
-use Rattle.std.proofs.Common.{◌≡◌, ℕ, zero, suc, ◌+◌, ◌<◌, ◌==◌, Bool, false, cond, not, nat_le, List, [], ◌∷◌, All, slice_index, Option, Some, None, Result, Ok, Err, IfOk, refl, sym, subst, arith}
+use Rattle.std.proofs.Common.{◌≡◌, ℕ, zero, suc, ◌+◌, ◌^◌, ◌<◌, ◌==◌, Bool, true, false, cond, not, nat_le, List, [], ◌∷◌, All, drop, slice_index, Option, Some, None, Result, Ok, Err, IfOk, refl, sym, subst, arith}
 use Rattle.std.specs.List.{list_any}
 use Rattle.std.proofs.lemmas.Bool.{cond_both, leb-false, or_parts}
 use Rattle.std.proofs.lemmas.List.Elements.{All-cons, All-nil}
@@ -17,8 +17,8 @@ use Rattle.wal_bodies.specs.declared.types.What.TheVariants.{Epoch}
 use Rattle.wal_bodies.specs.declared.types.RecKind.{RecKind}
 use Rattle.wal_bodies.specs.declared.types.RecKind.TheVariants.{Checkpoint, Ended, Running}
 use Rattle.wal_bodies.specs.Fields.{◌>>=◌, main_block, needed, xid_at, xids_at}
-use Rattle.wal_bodies.specs.Kinds.{backup_end, checkpoint, database_kind, ended, kind_of, later, overwrite, page_writes, parameters, parts_by, running, standby_kind, time_from, xact_kind, xinfo_from, xlog_kind}
-use Rattle.wal_bodies.specs.HeapKinds.{confirm, delete, heap2_kind, heap_kind, in_place, insert, lock, lock_updated, multi_insert, multi_insert_of, update}
+use Rattle.wal_bodies.specs.Kinds.{backup_end, checkpoint, database_kind, ended, kind_of, later, locks, count_from, overwrite, page_writes, parameters, parts_by, running, standby_kind, storage_kind, time_from, xact_kind, xinfo_from, xlog_kind}
+use Rattle.wal_bodies.specs.HeapKinds.{by_block, confirm, delete, freeze, freeze_plans, freeze_with, heap2_kind, heap_kind, in_place, insert, lock, lock_updated, multi_insert, multi_insert_of, prune, prune_lists, prune_with, update, vacuum, vacuum_lines, vacuum_with, visible}
 use Rattle.wal_bodies.specs.Typed.{ended_in, is_last, names_last}
 use Rattle.wal_bodies.specs.Xids.{IsShort, kind_xids, record_xids}
 use Rattle.pg_types.proofs.Bytes.{bytes-are, number-fits}
@@ -91,7 +91,7 @@ xlog_fits info main =
 ended_fits : (info : ℕ) (main : List ℕ) → Fits (ended info main)
 unfolding ended
 ended_fits info main =
-    bound (time_from main) _ (λ time. bound (xinfo_from info time.1) _ (λ xinfo. bound (parts_by xinfo.0 xinfo.1) _ (λ xids. none _ refl)))
+    bound (time_from main) _ (λ time. bound (xinfo_from info time.1) _ (λ xinfo. bound (parts_by xinfo.0 xinfo.1) _ (λ parts. none _ refl)))
 
 xact_fits : (info : ℕ) (main : List ℕ) → Fits (xact_kind info main)
 unfolding xact_kind
@@ -117,10 +117,19 @@ running_fits : (main : List ℕ) → AreBytes main → Fits (running main)
 unfolding running
 running_fits main all = search (either, refused, running_ok)
 
+locks_fits : (main : List ℕ) → Fits (locks main)
+unfolding locks
+locks_fits main = bound (count_from main) _ (λ count. search (either, refused, none))
+
+storage_fits : (info : ℕ) (main : List ℕ) → Fits (storage_kind info main)
+unfolding storage_kind
+storage_fits info main =
+    search (either, refused, none)
+
 standby_fits : (info : ℕ) (main : List ℕ) → AreBytes main → Fits (standby_kind info main)
 unfolding standby_kind
 standby_fits info main all =
-    search (either, refused, none, running_fits) depth 12
+    search (either, none, locks_fits, running_fits) depth 12
 
 database_fits : (database info : ℕ) (main : List ℕ) → Fits (database_kind database info main)
 unfolding database_kind
@@ -180,15 +189,75 @@ multi_insert_of_fits : (rec : Record) → Fits (multi_insert_of rec)
 unfolding multi_insert_of
 multi_insert_of_fits rec = bound (needed (main_block 0 rec)) _ (λ block. multi_insert_fits rec.main block.will_init)
 
+prune_lists_fits : (main : List ℕ) (redirected died : ℕ) (text : List ℕ) → Fits (prune_lists main redirected died text)
+unfolding prune_lists
+prune_lists_fits main redirected died text =
+    search (either, refused, none)
+
+prune_with_fits : (main : List ℕ) (applied : Bool) (text : List ℕ) → Fits (prune_with main applied text)
+prune_with_fits main true text = none _ refl
+prune_with_fits main false text = prune_lists_fits main (number_at 2 main 4) (number_at 2 main 6) text
+
+prune_fits : (main : List ℕ) (block : Block) → Fits (prune main block)
+unfolding prune
+prune_fits main block =
+    search (either, refused, prune_with_fits)
+
+vacuum_lines_fits : (count : ℕ) (text : List ℕ) → Fits (vacuum_lines count text)
+unfolding vacuum_lines
+vacuum_lines_fits count text =
+    search (either, refused, none)
+
+vacuum_with_fits : (main : List ℕ) (applied : Bool) (text : List ℕ) → Fits (vacuum_with main applied text)
+vacuum_with_fits main true text = none _ refl
+vacuum_with_fits main false text = vacuum_lines_fits (number_at 2 main 0) text
+
+vacuum_fits : (main : List ℕ) (block : Block) → Fits (vacuum main block)
+unfolding vacuum
+vacuum_fits main block =
+    search (either, refused, vacuum_with_fits)
+
+freeze_plans_fits : (main : List ℕ) (count : ℕ) (text : List ℕ) → Fits (freeze_plans main count text)
+unfolding freeze_plans
+freeze_plans_fits main count text =
+    search (either, refused, none)
+
+freeze_with_fits : (main : List ℕ) (applied : Bool) (text : List ℕ) → Fits (freeze_with main applied text)
+freeze_with_fits main true text = none _ refl
+freeze_with_fits main false text = freeze_plans_fits main (number_at 2 main 4) text
+
+freeze_fits : (main : List ℕ) (block : Block) → Fits (freeze main block)
+unfolding freeze
+freeze_fits main block =
+    search (either, refused, freeze_with_fits)
+
+visible_fits : (main : List ℕ) → Fits (visible main)
+unfolding visible
+visible_fits main =
+    search (either, refused, none)
+
+by_block_fits : (read : List ℕ → Block → Result RecKind BodyFault) (rec : Record) → ((main : List ℕ) (block : Block) → Fits (read main block)) → Fits (by_block read rec)
+unfolding by_block
+by_block_fits read rec fit = bound (needed (main_block 0 rec)) _ (λ block. fit rec.main block)
+
+pruned_fits : (rec : Record) → Fits (by_block prune rec)
+pruned_fits rec = by_block_fits prune rec prune_fits
+
+vacuumed_fits : (rec : Record) → Fits (by_block vacuum rec)
+vacuumed_fits rec = by_block_fits vacuum rec vacuum_fits
+
+frozen_fits : (rec : Record) → Fits (by_block freeze rec)
+frozen_fits rec = by_block_fits freeze rec freeze_fits
+
 heap2_fits : (rec : Record) → Fits (heap2_kind rec)
 unfolding heap2_kind
 heap2_fits rec =
-    search (either, refused, none, multi_insert_of_fits, lock_updated_fits) depth 12
+    search (either, none, pruned_fits, vacuumed_fits, frozen_fits, visible_fits, multi_insert_of_fits, lock_updated_fits) depth 12
 
 kind_fits : (rec : Record) (database : ℕ) (known : List Locator) → AreBytes rec.main → Fits (kind_of rec database known)
 unfolding kind_of
 kind_fits rec database known all =
-    search (either, none, xlog_fits, xact_fits, later_fits, database_fits, standby_fits, heap2_fits, heap_fits) depth 16
+    search (either, none, xlog_fits, xact_fits, storage_fits, later_fits, database_fits, standby_fits, heap2_fits, heap_fits) depth 16
 
 -- an id that is not the last one of the first epoch, or past it
 below_last : (xid : Xid) → is_last xid ≡ false → IsShort xid
@@ -204,7 +273,7 @@ own_short : (head : RecordHead) (kind : RecKind) → names_last head kind ≡ fa
 own_short head kind e = below_last head.xid (or_parts (is_last head.xid) (list_any is_last (ended_in kind)) e).0
 
 all_short : (head : RecordHead) (kind : RecKind) → names_last head kind ≡ false → All IsShort (told_xids kind) → All IsShort (kind_xids kind)
-all_short head (Ended time xinfo xids) e told = none_last xids (or_parts (is_last head.xid) (list_any is_last xids) e).1
+all_short head (Ended time xinfo xids files) e told = none_last xids (or_parts (is_last head.xid) (list_any is_last xids) e).1
 all_short head (Running tops subs overflow next oldest latest xids) e told = told
 all_short head (Checkpoint redo timeline previous writes next multi member oldest active) e told = told
 all_short head _ e told = All-nil IsShort

@@ -112,6 +112,10 @@ unfolding blocks_to blocks_from
 to_from rec tuples id zero h = refl
 to_from rec tuples id (suc n) h = rw (behind_first id tuples h, to_from rec tuples (id + 1) n (omega arith)) refl
 
+-- block 1 alone
+pub second_is : (rec : Record) (tuples : List NewTuple) → blocks_to rec tuples 1 1 ≡ blocks_from rec 1 1
+second_is rec tuples = to_from rec tuples 1 1 (omega arith)
+
 pub held_are : (rec : Record) (tuples : List NewTuple) (n : ℕ) → blocks_to rec tuples 0 n ≡ blocks_of n tuples rec
 unfolding blocks_to blocks_of
 held_are rec tuples zero = refl

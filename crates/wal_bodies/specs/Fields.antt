@@ -1,11 +1,12 @@
 -- Fields of a record's main data and of a block's data, and the steps that may refuse.
 use Rattle.std.specs.Prelude.{ℕ, ◌==◌, nat_lt, List, length, drop, Option, Some, None, Result, Ok, Err, if◌then◌else◌}
-pub use Rattle.record_fields.specs.Fields.{lsn_at, tli_at, xid_at}
-unfoldable pub use Rattle.record_fields.specs.Fields.{xids_at, lines_at, first_lines}
-use Rattle.wal_record.specs.Parts.{number_from}
+use Rattle.pg_types.specs.Numbers.{number_at}
+pub use Rattle.record_fields.specs.Fields.{lsn_at, tli_at, xid_at, locator_at}
+unfoldable pub use Rattle.record_fields.specs.Fields.{xids_at, lines_at, first_lines, redirects_at, locators_at, lock_entries_at, plans_at, planned_lines}
 use Rattle.wal_record.specs.Record.{Block, Record, block_by_id}
 use Rattle.wal_bodies.specs.declared.types.BodyFault.{BodyFault}
 use Rattle.wal_bodies.specs.declared.types.BodyFault.TheVariants.{Length}
+use Rattle.wal_record.specs.Parts.{number_from}
 
 infixl 10 ◌>>=◌
 abbrev pub ◌>>=◌ : {A B : Type 0} → Result A BodyFault → (A → Result B BodyFault) → Result B BodyFault

@@ -1,6 +1,6 @@
 -- What the main data of a heap record says (heapam_xlog.h). The info's highest bit tells that a page is
 -- made anew, which the block says itself (XLOG_HEAP_OPMASK leaves it out).
-use Rattle.std.specs.Prelude.{ℕ, ◌+◌, ◌*◌, ◌==◌, Bool, ◌&&◌, ◌||◌, bit_and, nat_lt, nat_le, List, length, slice_index, Option, Some, None, Result, Ok, Err, if◌then◌else◌}
+use Rattle.std.specs.Prelude.{ℕ, ◌+◌, ◌-◌, ◌*◌, ◌/◌, ◌==◌, Bool, true, false, ◌&&◌, ◌||◌, bit_and, nat_lt, List, [], length, slice_index, Option, Some, None, Result, Ok, Err, if◌then◌else◌}
 use Rattle.std.specs.List.{list_any}
 use Rattle.pg_types.specs.Numbers.{number_at, has_bits}
 use Rattle.pg_types.specs.declared.names.Locator.{Locator}
@@ -9,8 +9,9 @@ use Rattle.wal_bodies.specs.declared.types.BodyFault.{BodyFault}
 use Rattle.wal_bodies.specs.declared.types.BodyFault.TheVariants.{Length, Unsupported}
 use Rattle.wal_bodies.specs.declared.types.What.TheVariants.{InPlace, NotYet}
 use Rattle.wal_bodies.specs.declared.types.RecKind.{RecKind}
-use Rattle.wal_bodies.specs.declared.types.RecKind.TheVariants.{Insert, Delete, Update, Confirm, Lock, MultiInsert, LockUpdated, Other}
-use Rattle.wal_bodies.specs.Fields.{◌>>=◌, xid_at, lines_at, first_lines, main_block, needed}
+use Rattle.wal_bodies.specs.declared.types.RecKind.TheVariants.{Insert, Delete, Update, Confirm, Lock, MultiInsert, LockUpdated, Prune, Vacuum, Freeze, Visible, Other}
+use Rattle.wal_bodies.specs.Fields.{◌>>=◌, xid_at, lines_at, first_lines, redirects_at, plans_at, planned_lines, main_block, needed}
+use Rattle.wal_bodies.specs.Tuples.{is_applied}
 use Rattle.pg_types.specs.Locators.{same_locator}
 
 -- xl_heap_insert
@@ -89,10 +90,69 @@ multi_insert_of rec = do
   block ← needed (main_block 0 rec)
   multi_insert rec.main block.will_init
 
--- manager 9 (XLOG_HEAP2_PRUNE and so on): removals, freezing and visibility (0x10 to 0x40) are not read yet
+-- The lists of removals and of freezing stand in block 0's data, which is not there beside an image that is restored.
+
+-- what a pruned page's data lists: lines that lead to others, dead ones and, up to its end, unused ones
+unfoldable pub prune_lists : List ℕ → ℕ → ℕ → List ℕ → Result RecKind BodyFault
+prune_lists main redirected died text =
+    let from = 4 * redirected + 2 * died in
+    if nat_lt (length text) from then Err Length
+    else Ok (Prune
+    (xid_at main 0) (slice_index main 8)
+    (redirects_at text 0 redirected) (lines_at text (4 * redirected) died) (lines_at text from ((length text - from) / 2)))
+
+abbrev pub prune_with : List ℕ → Bool → List ℕ → Result RecKind BodyFault
+prune_with main true text = Ok (Prune (xid_at main 0) (slice_index main 8) [] [] [])
+prune_with main false text = prune_lists main (number_at 2 main 4) (number_at 2 main 6) text
+
+-- xl_heap_prune
+unfoldable pub prune : List ℕ → Block → Result RecKind BodyFault
+prune main block = if nat_lt (length main) 9 then Err Length else prune_with main (is_applied block.image) block.payload
+
+-- the lines that a vacuum makes unused
+unfoldable pub vacuum_lines : ℕ → List ℕ → Result RecKind BodyFault
+vacuum_lines count text = if nat_lt (length text) (2 * count) then Err Length else Ok (Vacuum (lines_at text 0 count))
+
+abbrev pub vacuum_with : List ℕ → Bool → List ℕ → Result RecKind BodyFault
+vacuum_with main true text = Ok (Vacuum [])
+vacuum_with main false text = vacuum_lines (number_at 2 main 0) text
+
+-- xl_heap_vacuum
+unfoldable pub vacuum : List ℕ → Block → Result RecKind BodyFault
+vacuum main block = if nat_lt (length main) 2 then Err Length else vacuum_with main (is_applied block.image) block.payload
+
+-- the plans of a freeze, and behind them their lines
+unfoldable pub freeze_plans : List ℕ → ℕ → List ℕ → Result RecKind BodyFault
+freeze_plans main count text =
+    if nat_lt (length text) (12 * count) then Err Length
+    else if nat_lt (length text) (12 * count + 2 * planned_lines text 0 count) then Err Length
+    else Ok (Freeze (xid_at main 0) (slice_index main 6) (plans_at text 0 (12 * count) count))
+
+abbrev pub freeze_with : List ℕ → Bool → List ℕ → Result RecKind BodyFault
+freeze_with main true text = Ok (Freeze (xid_at main 0) (slice_index main 6) [])
+freeze_with main false text = freeze_plans main (number_at 2 main 4) text
+
+-- xl_heap_freeze_page
+unfoldable pub freeze : List ℕ → Block → Result RecKind BodyFault
+freeze main block = if nat_lt (length main) 7 then Err Length else freeze_with main (is_applied block.image) block.payload
+
+-- xl_heap_visible: of block 1, the heap's, at most an image is restored
+unfoldable pub visible : List ℕ → Result RecKind BodyFault
+visible main = if nat_lt (length main) 5 then Err Length else Ok (Visible (xid_at main 0) (slice_index main 4))
+
+-- a kind by its main data and its block 0, which it has to have
+unfoldable pub by_block : (List ℕ → Block → Result RecKind BodyFault) → Record → Result RecKind BodyFault
+by_block read rec = do
+  block ← needed (main_block 0 rec)
+  read rec.main block
+
+-- manager 9 (XLOG_HEAP2_PRUNE and so on)
 unfoldable pub heap2_kind : Record → Result RecKind BodyFault
 heap2_kind rec =
-    if nat_le 0x10 (bit_and rec.head.info 0x70) && nat_le (bit_and rec.head.info 0x70) 0x40 then Err (Unsupported NotYet)
+    if bit_and rec.head.info 0x70 == 0x10 then by_block prune rec
+    else if bit_and rec.head.info 0x70 == 0x20 then by_block vacuum rec
+    else if bit_and rec.head.info 0x70 == 0x30 then by_block freeze rec
+    else if bit_and rec.head.info 0x70 == 0x40 then visible rec.main
     else if bit_and rec.head.info 0x70 == 0x50 then multi_insert_of rec
     else if bit_and rec.head.info 0x70 == 0x60 then lock_updated rec.main
     else Ok Other

@@ -1,5 +1,5 @@
 -- What the main data of a record says, by its resource manager (rmgrlist.h) and its info.
-use Rattle.std.specs.Prelude.{ℕ, ℤ, ◌+◌, ◌*◌, ◌==◌, not, ◌&&◌, ◌||◌, bit_and, nat_lt, nat_le, List, [], length, slice_index, Result, Ok, Err, if◌then◌else◌}
+use Rattle.std.specs.Prelude.{ℕ, ℤ, ◌+◌, ◌*◌, ◌==◌, not, ◌&&◌, ◌||◌, bit_and, nat_lt, nat_le, List, [], length, drop, slice_index, Result, Ok, Err, if◌then◌else◌}
 use Rattle.std.specs.Int.{cast_signed, w32, w64}
 use Rattle.pg_types.specs.Numbers.{number_at, has_bits}
 use Rattle.pg_types.specs.declared.names.Locator.{Locator}
@@ -9,8 +9,8 @@ use Rattle.wal_bodies.specs.declared.types.BodyFault.{BodyFault}
 use Rattle.wal_bodies.specs.declared.types.BodyFault.TheVariants.{Length, Unsupported}
 use Rattle.wal_bodies.specs.declared.types.What.TheVariants.{Prepared, Minimal, PageWrites, Database, Epoch, NotYet}
 use Rattle.wal_bodies.specs.declared.types.RecKind.{RecKind}
-use Rattle.wal_bodies.specs.declared.types.RecKind.TheVariants.{Checkpoint, BackupEnd, Parameters, FullPageWrites, Images, Overwrite, Ended, Running, Other}
-use Rattle.wal_bodies.specs.Fields.{◌>>=◌, lsn_at, tli_at, xid_at, xids_at, needed_number, behind}
+use Rattle.wal_bodies.specs.declared.types.RecKind.TheVariants.{Checkpoint, BackupEnd, Parameters, FullPageWrites, Images, Overwrite, Ended, Running, Truncate, Locks, Other}
+use Rattle.wal_bodies.specs.Fields.{◌>>=◌, lsn_at, tli_at, xid_at, xids_at, locator_at, locators_at, lock_entries_at, needed_number, behind}
 use Rattle.wal_bodies.specs.HeapKinds.{heap_kind, heap2_kind}
 
 -- A checkpoint (CheckPoint, pg_control.h). Timelines other than the first are not read yet.
@@ -78,22 +78,34 @@ count_from text = do
   count ← needed_number 4 text
   if nat_le 2147483648 count.0 then Err Length else Ok count
 
--- a count, and as many transaction ids
-unfoldable pub counted_xids : List ℕ → Result (List Xid) BodyFault
+-- a count, as many transaction ids, and what stands behind them
+unfoldable pub counted_xids : List ℕ → Result (List Xid × List ℕ) BodyFault
 counted_xids text = do
   count ← count_from text
-  if nat_lt (length count.1) (4 * count.0) then Err Length else Ok (xids_at count.1 0 count.0)
+  if nat_lt (length count.1) (4 * count.0) then Err Length
+      else Ok (xids_at count.1 0 count.0, drop (4 * count.0) count.1)
 
 -- the subtransactions, which are there with xinfo bit 1 (XACT_XINFO_HAS_SUBXACTS)
-unfoldable pub subs_from : ℕ → List ℕ → Result (List Xid) BodyFault
-subs_from xinfo text = if has_bits xinfo 2 then counted_xids text else Ok []
+unfoldable pub subs_from : ℕ → List ℕ → Result (List Xid × List ℕ) BodyFault
+subs_from xinfo text = if has_bits xinfo 2 then counted_xids text else Ok ([], text)
 
--- what stands behind xinfo; files that are dropped, xinfo bit 2 (XACT_XINFO_HAS_RELFILELOCATORS), are not read yet
-unfoldable pub parts_by : ℕ → List ℕ → Result (List Xid) BodyFault
-parts_by xinfo text =
-    if has_bits xinfo 4 then Err (Unsupported NotYet) else do
-      rest ← behind_database xinfo text
-      subs_from xinfo rest
+-- a count, and as many files
+unfoldable pub counted_files : List ℕ → Result (List Locator) BodyFault
+counted_files text = do
+  count ← count_from text
+  if nat_lt (length count.1) (12 * count.0) then Err Length else Ok (locators_at count.1 0 count.0)
+
+-- the files that are dropped, which are there with xinfo bit 2 (XACT_XINFO_HAS_RELFILELOCATORS)
+unfoldable pub files_from : ℕ → List ℕ → Result (List Locator) BodyFault
+files_from xinfo text = if has_bits xinfo 4 then counted_files text else Ok []
+
+-- what stands behind xinfo: subtransactions and dropped files; the rest is not read
+unfoldable pub parts_by : ℕ → List ℕ → Result (List Xid × List Locator) BodyFault
+parts_by xinfo text = do
+  rest ← behind_database xinfo text
+  subs ← subs_from xinfo rest
+  files ← files_from xinfo subs.1
+  Ok (subs.0, files)
 
 -- a time of eight bytes (TimestampTz), and what stands behind it
 unfoldable pub time_from : List ℕ → Result (ℤ × List ℕ) BodyFault
@@ -106,8 +118,8 @@ unfoldable pub ended : ℕ → List ℕ → Result RecKind BodyFault
 ended info main = do
   time ← time_from main
   xinfo ← xinfo_from info time.1
-  xids ← parts_by xinfo.0 xinfo.1
-  Ok (Ended time.0 xinfo.0 xids)
+  parts ← parts_by xinfo.0 xinfo.1
+  Ok (Ended time.0 xinfo.0 parts.0 parts.1)
 
 -- manager 1, transactions (xact.h, XLOG_XACT_OPMASK): two-phase commit is not supported
 unfoldable pub xact_kind : ℕ → List ℕ → Result RecKind BodyFault
@@ -140,10 +152,26 @@ database_kind database info main =
     else if number_at 4 main 0 == database then Err (Unsupported Database)
     else Ok Other
 
--- manager 8, standby: locks (0x00) are not read yet
+-- manager 2, storage (storage_xlog.h): a file is cut to so many blocks (0x20), unless the heap's own part stays
+-- (SMGR_TRUNCATE_HEAP)
+unfoldable pub storage_kind : ℕ → List ℕ → Result RecKind BodyFault
+storage_kind info main =
+    if not (info == 0x20) then Ok Other
+    else if nat_lt (length main) 20 then Err Length
+    else if has_bits (number_at 4 main 16) 1
+    then Ok (Truncate (number_at 4 main 0) (locator_at main 4) (cast_signed w32 (number_at 4 main 16)))
+    else Ok Other
+
+-- access exclusive locks that transactions hold (xl_standby_locks, standbydefs.h)
+unfoldable pub locks : List ℕ → Result RecKind BodyFault
+locks main = do
+  count ← count_from main
+  if nat_lt (length count.1) (12 * count.0) then Err Length else Ok (Locks (lock_entries_at count.1 0 count.0))
+
+-- manager 8, standby
 unfoldable pub standby_kind : ℕ → List ℕ → Result RecKind BodyFault
 standby_kind info main =
-    if info == 0x00 then Err (Unsupported NotYet)
+    if info == 0x00 then locks main
     else if info == 0x10 then running main
     else Ok Other
 
@@ -157,7 +185,7 @@ unfoldable pub kind_of : Record → ℕ → List Locator → Result RecKind Body
 kind_of rec database known =
     if rec.head.manager == 0 then xlog_kind (bit_and rec.head.info 0xF0) rec.main
     else if rec.head.manager == 1 then xact_kind rec.head.info rec.main
-    else if rec.head.manager == 2 then later 0x20 (bit_and rec.head.info 0xF0)
+    else if rec.head.manager == 2 then storage_kind (bit_and rec.head.info 0xF0) rec.main
     else if rec.head.manager == 4 then database_kind database (bit_and rec.head.info 0xF0) rec.main
     else if rec.head.manager == 6 then later 0x20 (bit_and rec.head.info 0xF0)
     else if rec.head.manager == 8 then standby_kind (bit_and rec.head.info 0xF0) rec.main

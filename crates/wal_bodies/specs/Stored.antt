@@ -6,7 +6,8 @@ use Rattle.wal_bodies.specs.declared.types.NewTuple.{NewTuple}
 use Rattle.wal_bodies.specs.declared.types.RecBlock.{RecBlock}
 use Rattle.wal_bodies.specs.Fields.{main_block}
 use Rattle.wal_bodies.specs.Tuples.{listed_from, tuple_with}
-use Rattle.wal_bodies.specs.Typed.{blocks_of, listed_block}
+use Rattle.wal_bodies.specs.declared.types.RecKind.{RecKind}
+use Rattle.wal_bodies.specs.Typed.{blocks_as, blocks_of, listed_block}
 
 -- the first one
 abbrev pub first_of : {A : Type 0} → List A → Option A
@@ -61,3 +62,8 @@ IsNextBlock rec tuples from ids (Some block) =
 abbrev pub with_blocks : ℕ → Record → Result (List NewTuple) BodyFault → Result (List RecBlock) BodyFault
 with_blocks ids rec (Ok tuples) = Ok (blocks_of ids tuples rec)
 with_blocks ids rec (Err fault) = Err fault
+
+-- those of a record of this kind
+abbrev pub with_blocks_as : RecKind → Record → Result (List NewTuple) BodyFault → Result (List RecBlock) BodyFault
+with_blocks_as kind rec (Ok tuples) = Ok (blocks_as kind tuples rec)
+with_blocks_as kind rec (Err fault) = Err fault

@@ -7,7 +7,7 @@ use Rattle.wal_bodies.specs.declared.types.BodyFault.{BodyFault}
 use Rattle.wal_bodies.specs.declared.types.BodyFault.TheVariants.{Length}
 use Rattle.wal_bodies.specs.declared.types.NewTuple.{NewTuple}
 use Rattle.wal_bodies.specs.declared.types.RecKind.{RecKind}
-use Rattle.wal_bodies.specs.declared.types.RecKind.TheVariants.{Checkpoint, BackupEnd, Parameters, FullPageWrites, Images, Overwrite, Ended, Running, Insert, Delete, Update, Confirm, Lock, MultiInsert, LockUpdated, Other}
+use Rattle.wal_bodies.specs.declared.types.RecKind.TheVariants.{Checkpoint, BackupEnd, Parameters, FullPageWrites, Images, Overwrite, Ended, Running, Insert, Delete, Update, Confirm, Lock, MultiInsert, LockUpdated, Prune, Vacuum, Freeze, Visible, Truncate, Locks, Other}
 use Rattle.wal_bodies.specs.Fields.{◌>>=◌, needed_number, main_block, needed}
 
 -- a tuple whose header's three fields stand at `at`, with these bytes behind them
@@ -112,7 +112,7 @@ tuples_of (Parameters connections processes senders prepared locks level) rec = 
 tuples_of (FullPageWrites on) rec = Ok []
 tuples_of Images rec = Ok []
 tuples_of (Overwrite given_up time) rec = Ok []
-tuples_of (Ended time xinfo xids) rec = Ok []
+tuples_of (Ended time xinfo xids files) rec = Ok []
 tuples_of (Running tops subs overflow next oldest latest xids) rec = Ok []
 tuples_of (Insert line flags) rec = insert_tuples rec
 tuples_of (Delete xmax line bits flags) rec = no_tuples rec
@@ -121,4 +121,10 @@ tuples_of (Confirm line) rec = no_tuples rec
 tuples_of (Lock xmax line bits flags) rec = no_tuples rec
 tuples_of (MultiInsert flags lines) rec = multi_tuples (length lines) rec
 tuples_of (LockUpdated xmax line bits flags) rec = no_tuples rec
+tuples_of (Prune horizon catalogue redirected died freed) rec = no_tuples rec
+tuples_of (Vacuum freed) rec = no_tuples rec
+tuples_of (Freeze horizon catalogue plans) rec = no_tuples rec
+tuples_of (Visible horizon flags) rec = Ok []
+tuples_of (Truncate block locator flags) rec = Ok []
+tuples_of (Locks entries) rec = Ok []
 tuples_of Other rec = Ok []

@@ -8,7 +8,7 @@ use Rattle.wal_bodies.specs.declared.types.RecKind.TheVariants.{Checkpoint, Ende
 
 -- those of the main data: the ended ones, those of a running record, and the next one of a checkpoint
 abbrev pub kind_xids : RecKind → List Xid
-kind_xids (Ended time xinfo xids) = xids
+kind_xids (Ended time xinfo xids files) = xids
 kind_xids (Running tops subs overflow next oldest latest xids) = next ∷ oldest ∷ latest ∷ xids
 kind_xids (Checkpoint redo timeline previous writes next multi member oldest active) = next ∷ []
 kind_xids _ = []

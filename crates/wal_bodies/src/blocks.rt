@@ -1,7 +1,7 @@
 ghost use Rattle.std.specs.Prelude.{◌≡◌, ◌≤◌, option_map};
 ghost use Rattle.std.specs.Iterator.{YieldsFirst, item_count};
 ghost use Rattle.wal_record.specs.Views.{block_of_view, image_of_view};
-ghost use Rattle.wal_bodies.specs.Typed.{image_of, block_with, blocks_of, number_of};
+ghost use Rattle.wal_bodies.specs.Typed.{image_of, block_with, blocks_of, blocks_from, number_of};
 ghost use Rattle.wal_bodies.specs.Stored.{tuples_for, IsNextBlock};
 
 use crate::fields::main_block;
@@ -62,6 +62,19 @@ impl<'a> RecBlocks<'a> {
             from: 0,
             ids,
             tuples,
+        }
+    }
+
+    /// The record's block 1, if it has one, without tuples.
+    #[tactic(auto, using(crate::proofs::Walks::second_is))]
+    pub(crate) fn second(view: &'a RecordView<'a>) -> RecBlocks<'a>
+        ensures { result ≡ blocks_from view.now 1 1 }
+    {
+        RecBlocks {
+            view: Some(view),
+            from: 1,
+            ids: 2,
+            tuples: NewTuples::none(),
         }
     }
 

@@ -3,6 +3,7 @@ ghost use Rattle.wal_record.specs.Views.{block_of_view};
 ghost use Rattle.wal_bodies.specs.HeapKinds.{insert, delete, update, confirm, lock, lock_updated, multi_insert, multi_insert_of, is_described, in_place, heap_kind, heap2_kind};
 
 use crate::fields::main_block;
+use crate::removals::{freeze_of, prune_of, vacuum_of, visible};
 use crate::types::{BodyFault, RecKind, What};
 use pg_types::{Locator, u16_at};
 use record_fields::{Lines, xid_at};
@@ -37,7 +38,10 @@ pub(crate) fn heap2_kind<'a>(view: &RecordView<'a>) -> Result<RecKind<'a>, BodyF
     ensures { result ≡ heap2_kind view.now }
 {
     match view.head().info & 0x70 {
-        0x10..=0x40 => Err(BodyFault::Unsupported(What::NotYet)),
+        0x10 => prune_of(view),
+        0x20 => vacuum_of(view),
+        0x30 => freeze_of(view),
+        0x40 => visible(view.main()),
         0x50 => multi_insert_of(view),
         0x60 => lock_updated(view.main()),
         _ => Ok(RecKind::Other),

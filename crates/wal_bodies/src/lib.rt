@@ -7,7 +7,9 @@ mod fields;
 mod heap;
 mod new_tuples;
 mod rec;
+mod removals;
 mod running;
+mod storage;
 mod tuples;
 mod typed;
 mod types;
@@ -18,6 +20,9 @@ pub use blocks::RecBlocks;
 pub use heap::IS_MULTI;
 pub use new_tuples::NewTuples;
 pub use rec::one_form;
-pub use record_fields::{Lines, RecBytes, Xids};
+pub use record_fields::{
+    FreezePlan, FreezePlans, Lines, Locators, LockEntries, LockEntry, RecBytes, Redirect,
+    Redirects, Xids,
+};
 pub use typed::body;
 pub use types::{BodyFault, NewTuple, Rec, RecBlock, RecImage, RecKind, What};

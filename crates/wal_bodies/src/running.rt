@@ -1,9 +1,10 @@
 ghost use Rattle.std.specs.Prelude.{◌≡◌};
-ghost use Rattle.wal_bodies.specs.Kinds.{running, standby_kind, database_kind, later};
+ghost use Rattle.wal_bodies.specs.Kinds.{running, locks, standby_kind, database_kind, later};
 
 use crate::types::{BodyFault, RecKind, What};
+use crate::xact::count_from;
 use pg_types::u32_at;
-use record_fields::{Xids, xid_at};
+use record_fields::{LockEntries, Xids, xid_at};
 
 /// The kinds of a standby's records, by the info's high four bits.
 #[tactic(auto, unfolding(crate::specs::Kinds::standby_kind))]
@@ -11,10 +12,24 @@ pub(crate) fn standby_kind<'a>(info: u8, main: &'a [u8]) -> Result<RecKind<'a>, 
     ensures { result ≡ standby_kind info main.now }
 {
     match info {
-        0x00 => Err(BodyFault::Unsupported(What::NotYet)),
+        0x00 => locks(main),
         0x10 => running(main),
         _ => Ok(RecKind::Other),
     }
+}
+
+/// The access exclusive locks that transactions hold.
+#[tactic(auto, unfolding(crate::specs::Kinds::locks))]
+fn locks<'a>(main: &'a [u8]) -> Result<RecKind<'a>, BodyFault>
+    ensures { result ≡ locks main.now }
+{
+    let (count, rest) = count_from(main)?;
+    let count = count as usize;
+    if rest.len() < 12 * count {
+        return Err(BodyFault::Length);
+    }
+    let entries = LockEntries::new(rest, count);
+    Ok(RecKind::Locks { entries })
 }
 
 /// The transactions that are running.

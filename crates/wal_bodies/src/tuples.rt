@@ -2,8 +2,7 @@ ghost use Rattle.std.specs.Prelude.{◌≡◌, option_map};
 ghost use Rattle.wal_record.specs.Views.{block_of_view, image_of_view};
 ghost use Rattle.wal_bodies.specs.Fields.{needed_number, result_map};
 ghost use Rattle.wal_bodies.specs.Tuples.{inserted, length_from, replaced, updated, listed_from, is_applied, in_data, update_tuples, no_tuples, borrows, tuples_of, insert_tuples, multi_tuples};
-ghost use Rattle.wal_bodies.specs.Typed.{ids_of};
-ghost use Rattle.wal_bodies.specs.Stored.{with_blocks};
+ghost use Rattle.wal_bodies.specs.Stored.{with_blocks, with_blocks_as};
 
 use crate::blocks::RecBlocks;
 use crate::fields::main_block;
@@ -14,12 +13,12 @@ use wal_record::{BlockView, RecordView};
 
 /// The blocks that redo of this kind changes, with the tuples that the record puts into its block 0, which a
 /// kind of the heap has to have.
-#[tactic(auto, unfolding(crate::specs::Tuples::tuples_of, crate::specs::Typed::ids_of, crate::specs::Typed::blocks_of))]
+#[tactic(auto, unfolding(crate::specs::Tuples::tuples_of, crate::specs::Typed::ids_of, crate::specs::Typed::blocks_of, crate::specs::Typed::blocks_as))]
 pub(crate) fn blocks_of<'a>(
     kind: &RecKind<'a>,
     view: &'a RecordView<'a>,
 ) -> Result<RecBlocks<'a>, BodyFault>
-    ensures { result ≡ with_blocks (ids_of kind.now) view.now (tuples_of kind.now view.now) }
+    ensures { result ≡ with_blocks_as kind.now view.now (tuples_of kind.now view.now) }
 {
     match kind {
         RecKind::Insert { .. } => insert_blocks(view),
@@ -28,7 +27,11 @@ pub(crate) fn blocks_of<'a>(
         RecKind::Delete { .. }
         | RecKind::Confirm { .. }
         | RecKind::Lock { .. }
-        | RecKind::LockUpdated { .. } => one_block(view),
+        | RecKind::LockUpdated { .. }
+        | RecKind::Prune { .. }
+        | RecKind::Vacuum { .. }
+        | RecKind::Freeze { .. } => one_block(view),
+        RecKind::Visible { .. } => Ok(RecBlocks::second(view)),
         RecKind::Images => Ok(RecBlocks::of(view, 33, NewTuples::none())),
         _ => Ok(RecBlocks::none()),
     }
@@ -98,7 +101,7 @@ fn one_block<'a>(view: &'a RecordView<'a>) -> Result<RecBlocks<'a>, BodyFault>
 }
 
 /// Whether replay restores the block from its image, so that the block's data is not used.
-fn is_applied(block: &BlockView<'_>) -> bool
+pub(crate) fn is_applied(block: &BlockView<'_>) -> bool
     ensures { result ≡ is_applied (option_map image_of_view block.now.image) }
 {
     match block.image {

@@ -7,6 +7,7 @@ ghost use Rattle.wal_bodies.specs.Typed.{is_last, ended_in, names_last, read_as,
 use crate::blocks::RecBlocks;
 use crate::heap::{heap_kind, heap2_kind};
 use crate::running::{database_kind, later, standby_kind};
+use crate::storage::storage_kind;
 use crate::tuples::blocks_of;
 use crate::types::{BodyFault, Rec, RecKind, What};
 use crate::xact::xact_kind;
@@ -79,7 +80,7 @@ fn kind_of<'a>(
     match head.manager {
         0 => xlog_kind(head.info & 0xF0, main),
         1 => xact_kind(head.info, main),
-        2 => later(0x20, head.info & 0xF0),
+        2 => storage_kind(head.info & 0xF0, main),
         4 => database_kind(database, head.info & 0xF0, main),
         6 => later(0x20, head.info & 0xF0),
         8 => standby_kind(head.info & 0xF0, main),

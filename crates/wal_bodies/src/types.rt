@@ -1,7 +1,7 @@
 use crate::blocks::RecBlocks;
 use crate::new_tuples::NewTuples;
 use pg_types::{Locator, Lsn, Tli, Xid};
-use record_fields::{Lines, RecBytes, Xids};
+use record_fields::{FreezePlans, Lines, Locators, LockEntries, RecBytes, Redirects, Xids};
 use thiserror::Error;
 use wal_record::RecordHead;
 
@@ -75,6 +75,8 @@ pub enum RecKind<'a> {
         xinfo: u32,
         /// The transaction's subtransactions.
         xids: Xids<'a>,
+        /// The files that are dropped with the end. Those of an abort are not used.
+        files: Locators<'a>,
     },
     /// The transactions that are running (`xl_running_xacts`, standbydefs.h).
     Running {
@@ -135,6 +137,56 @@ pub enum RecKind<'a> {
         line: u16,
         bits: u8,
         flags: u8,
+    },
+    /// Lines of block 0 are pruned (`xl_heap_prune`). The lists are empty beside an image that is to be applied,
+    /// which shows them.
+    Prune {
+        /// The latest id that a removed tuple was deleted by, or 0: snapshots that do not see it as ended conflict.
+        horizon: Xid,
+        /// The table is a catalogue.
+        catalogue: u8,
+        /// Lines that lead to others.
+        redirected: Redirects<'a>,
+        /// Lines whose tuples are gone.
+        died: Lines<'a>,
+        /// Lines that are unused.
+        freed: Lines<'a>,
+    },
+    /// Dead lines of block 0 become unused (`xl_heap_vacuum`). The list is empty beside an image that is to be
+    /// applied, which shows them.
+    Vacuum {
+        freed: Lines<'a>,
+    },
+    /// Tuples of block 0 are frozen (`xl_heap_freeze_page`). The list is empty beside an image that is to be applied,
+    /// which shows them.
+    Freeze {
+        /// The latest id that a frozen tuple was inserted by, or a later one: snapshots that do not see it as ended
+        /// conflict. 0 is none.
+        horizon: Xid,
+        /// The table is a catalogue.
+        catalogue: u8,
+        plans: FreezePlans<'a>,
+    },
+    /// All tuples of a block are visible to all (`xl_heap_visible`). The heap's block is block 1, of which at most an
+    /// image is restored.
+    Visible {
+        /// The latest id that a tuple was inserted by, or 0: snapshots that do not see it as ended conflict.
+        horizon: Xid,
+        /// The bits that the visibility map gets (visibilitymapdefs.h): all-visible 0x01, all-frozen 0x02; and 0x04 of
+        /// a catalogue.
+        flags: u8,
+    },
+    /// The heap's own part of a file is cut (`xl_smgr_truncate`, storage_xlog.h).
+    Truncate {
+        /// How many blocks are left.
+        block: u32,
+        locator: Locator,
+        /// Which parts are cut: the heap's own 0x01, the visibility map 0x02, the map of free space 0x04.
+        flags: i32,
+    },
+    /// Access exclusive locks that transactions hold (`xl_standby_locks`, standbydefs.h).
+    Locks {
+        entries: LockEntries<'a>,
     },
     /// A record that a standby of one database passes over.
     Other,

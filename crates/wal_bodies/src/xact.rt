@@ -1,10 +1,10 @@
 ghost use Rattle.std.specs.Prelude.{◌≡◌};
 ghost use Rattle.wal_bodies.specs.Fields.{needed_number, behind, result_map};
-ghost use Rattle.wal_bodies.specs.Kinds.{time_from, xinfo_from, behind_database, count_from, counted_xids, subs_from, parts_by, ended, xact_kind};
+ghost use Rattle.wal_bodies.specs.Kinds.{time_from, xinfo_from, behind_database, count_from, counted_xids, subs_from, counted_files, files_from, parts_by, ended, xact_kind};
 
 use crate::types::{BodyFault, RecKind, What};
 use pg_types::u32_at;
-use record_fields::{Xids, i64_at};
+use record_fields::{Locators, Xids, i64_at};
 
 /// The kinds of a transaction's records.
 #[tactic(auto, unfolding(crate::specs::Kinds::xact_kind))]
@@ -26,8 +26,13 @@ fn ended<'a>(info: u8, main: &'a [u8]) -> Result<RecKind<'a>, BodyFault>
 {
     let (time, rest) = time_from(main)?;
     let (xinfo, rest) = xinfo_from(info, rest)?;
-    let xids = parts_by(xinfo, rest)?;
-    Ok(RecKind::Ended { time, xinfo, xids })
+    let (xids, files) = parts_by(xinfo, rest)?;
+    Ok(RecKind::Ended {
+        time,
+        xinfo,
+        xids,
+        files,
+    })
 }
 
 #[tactic(auto, unfolding(crate::specs::Kinds::time_from, crate::specs::Fields::needed_number, wal_record::specs::Parts::number_from))]
@@ -64,16 +69,15 @@ fn u32_in_front(text: &[u8]) -> Result<(u32, &[u8]), BodyFault>
     Ok((u32_at(text, 0), rest))
 }
 
-/// The subtransactions, by the parts that xinfo tells.
+/// The subtransactions and the dropped files, by the parts that xinfo tells. What stands behind them is not read.
 #[tactic(auto, unfolding(crate::specs::Kinds::parts_by))]
-fn parts_by<'a>(xinfo: u32, text: &'a [u8]) -> Result<Xids<'a>, BodyFault>
+fn parts_by<'a>(xinfo: u32, text: &'a [u8]) -> Result<(Xids<'a>, Locators<'a>), BodyFault>
     ensures { result ≡ parts_by xinfo text.now }
 {
-    if xinfo & 0x04 != 0 {
-        return Err(BodyFault::Unsupported(What::NotYet));
-    }
     let rest = behind_database(xinfo, text)?;
-    subs_from(xinfo, rest)
+    let (xids, rest) = subs_from(xinfo, rest)?;
+    let files = files_from(xinfo, rest)?;
+    Ok((xids, files))
 }
 
 /// The database and its tablespace are passed over.
@@ -92,18 +96,28 @@ fn behind_database(xinfo: u32, text: &[u8]) -> Result<&[u8], BodyFault>
 }
 
 #[tactic(auto, unfolding(crate::specs::Kinds::subs_from))]
-fn subs_from<'a>(xinfo: u32, text: &'a [u8]) -> Result<Xids<'a>, BodyFault>
-    ensures { result ≡ subs_from xinfo text.now }
+fn subs_from<'a>(xinfo: u32, text: &'a [u8]) -> Result<(Xids<'a>, &'a [u8]), BodyFault>
+    ensures { result_map (λ x. (x.0, x.1.now)) result ≡ subs_from xinfo text.now }
 {
     if xinfo & 0x02 == 0 {
-        return Ok(Xids::none());
+        return Ok((Xids::none(), text));
     }
     counted_xids(text)
 }
 
+#[tactic(auto, unfolding(crate::specs::Kinds::files_from))]
+fn files_from<'a>(xinfo: u32, text: &'a [u8]) -> Result<Locators<'a>, BodyFault>
+    ensures { result ≡ files_from xinfo text.now }
+{
+    if xinfo & 0x04 == 0 {
+        return Ok(Locators::none());
+    }
+    counted_files(text)
+}
+
 /// A count that is not below 0, and what stands behind it.
 #[tactic(auto, unfolding(crate::specs::Kinds::count_from))]
-fn count_from(text: &[u8]) -> Result<(u32, &[u8]), BodyFault>
+pub(crate) fn count_from(text: &[u8]) -> Result<(u32, &[u8]), BodyFault>
     ensures { result_map (λ x. (x.0, x.1.now)) result ≡ count_from text.now }
 {
     let (count, rest) = u32_in_front(text)?;
@@ -113,15 +127,29 @@ fn count_from(text: &[u8]) -> Result<(u32, &[u8]), BodyFault>
     Ok((count, rest))
 }
 
-/// A count, and as many transaction ids.
+/// A count, as many transaction ids, and what stands behind them.
 #[tactic(auto, unfolding(crate::specs::Kinds::counted_xids))]
-fn counted_xids<'a>(text: &'a [u8]) -> Result<Xids<'a>, BodyFault>
-    ensures { result ≡ counted_xids text.now }
+fn counted_xids<'a>(text: &'a [u8]) -> Result<(Xids<'a>, &'a [u8]), BodyFault>
+    ensures { result_map (λ x. (x.0, x.1.now)) result ≡ counted_xids text.now }
 {
     let (count, rest) = count_from(text)?;
     let count = count as usize;
     if rest.len() < 4 * count {
         return Err(BodyFault::Length);
     }
-    Ok(Xids::new(rest, 0, count))
+    let (_, behind) = rest.split_at(4 * count);
+    Ok((Xids::new(rest, 0, count), behind))
+}
+
+/// A count, and as many files.
+#[tactic(auto, unfolding(crate::specs::Kinds::counted_files))]
+fn counted_files<'a>(text: &'a [u8]) -> Result<Locators<'a>, BodyFault>
+    ensures { result ≡ counted_files text.now }
+{
+    let (count, rest) = count_from(text)?;
+    let count = count as usize;
+    if rest.len() < 12 * count {
+        return Err(BodyFault::Length);
+    }
+    Ok(Locators::new(rest, count))
 }

@@ -14,9 +14,9 @@ use Rattle.wal_reader.specs.Step.{attempt, begun, end_after, headed, step}
 use Rattle.wal_reader.specs.Told.{header_at, told_bytes}
 use Rattle.wal_bodies.specs.Fields.{xids_at, needed_number}
 use Rattle.wal_bodies.specs.HeapKinds.{heap_kind, insert}
-use Rattle.wal_bodies.specs.Kinds.{backup_end as read_backup_end, checkpoint, behind_database, ended, kind_of, parts_by, running, standby_kind, subs_from, time_from, xact_kind, xinfo_from, xlog_kind}
+use Rattle.wal_bodies.specs.Kinds.{backup_end as read_backup_end, checkpoint, behind_database, ended, files_from, kind_of, parts_by, running, standby_kind, subs_from, time_from, xact_kind, xinfo_from, xlog_kind}
 use Rattle.wal_bodies.specs.Tuples.{insert_tuples, inserted, tuples_of}
-use Rattle.wal_bodies.specs.Typed.{blocks_from, blocks_of, ids_of, read_as, typed}
+use Rattle.wal_bodies.specs.Typed.{blocks_as, blocks_from, blocks_of, ids_of, read_as, typed}
 use Rattle.worked_archive.specs.WorkedArchive.{AreTyped, IsWorkedArchive, entries, log, backup_end, commit_of_700, contents, insert_by_700, online_checkpoint, running_record, told}
 
 finds_running : step told 0x2000028 Below ≡ Ok running_record
@@ -44,7 +44,7 @@ unfolding step place_at attempt headed begun gathered contents segment_name_text
 finds_end = refl
 
 are_typed : AreTyped entries log
-unfolding typed read_as kind_of xlog_kind checkpoint read_backup_end xact_kind ended time_from needed_number number_from xinfo_from parts_by behind_database subs_from standby_kind running heap_kind insert xids_at tuples_of insert_tuples inserted ids_of blocks_of blocks_from number_at
+unfolding typed read_as kind_of xlog_kind checkpoint read_backup_end xact_kind ended time_from needed_number xinfo_from parts_by behind_database subs_from files_from standby_kind running heap_kind insert xids_at tuples_of insert_tuples inserted ids_of blocks_as blocks_of blocks_from number_at number_from
 are_typed = (refl, (refl, (refl, (refl, (refl, tt)))))
 
 pub is_worked : IsWorkedArchive

@@ -140,7 +140,7 @@ inserted_block = record {
 -- what the records say, the newest first
 abbrev pub log : List Rec
 log =
-    rec_with commit_of_700 (Ended (pos 0) 0 []) []
+    rec_with commit_of_700 (Ended (pos 0) 0 [] []) []
     ∷ rec_with insert_by_700 (Insert 1 0) (inserted_block ∷ [])
     ∷ rec_with backup_end (BackupEnd (record { 0 = 0x2000028 })) []
     ∷ rec_with online_checkpoint (Checkpoint (record { 0 = 0x2000028 }) (record { 0 = 1 }) (record { 0 = 1 }) true (record { 0 = 700 }) 1 0 1 (record { 0 = 700 })) []

@@ -1,6 +1,6 @@
 -- The log that the example's archive tells keeps each clause.
 use Rattle.std.proofs.Common.{◌≡◌, ℕ, true, false, ◌==◌, ◌||◌, List, [], ◌∷◌, is_ok, arith, refl, sym, subst, inl, inr}
-use Rattle.std.proofs.lemmas.Bool.{eq-eqb, eqb-true, false≢true, or_cases, or_left}
+use Rattle.std.proofs.lemmas.Bool.{eqb-true, false≢true, or_cases}
 use Rattle.std.proofs.lemmas.List.Elements.{All-cons, All-head, All-nil}
 use Rattle.pg_types.specs.Numbers.{number_at}
 use Rattle.pg_types.specs.declared.names.Locator.{Locator}
@@ -9,20 +9,19 @@ use Rattle.wal_bodies.specs.declared.types.Rec.{Rec}
 use Rattle.heap_tuple.specs.Tuple.{is_lock_only, is_tuple, is_tuple_head, max_of}
 use Rattle.heap_page.specs.Item.{with_item}
 use Rattle.heap_page.specs.Put.{put_answer, set_head_answer}
-use Rattle.heap_redo.specs.Redone.{grown, redone, redone_at, redone_block, view_with, with_seen}
+use Rattle.heap_redo.specs.Redone.{grown, redone, redone_record, redone_at, redone_block, view_with, with_seen}
 use Rattle.heap_redo.specs.After.{after, after_change, change_head, changed, changed_page, joined, put, put_listed, put_version, tuple_of, update, update_old, update_within}
 use Rattle.heap_redo.specs.TupleHeads.{deleted, head_bytes, head_of, locked, marked_mask, marked_mask2, replaced}
 use Rattle.transaction_model.specs.Transactions.{Live, ended}
-use Rattle.transaction_model.specs.LegalTransactions.{CommitRule, Legal, before}
-use Rattle.xact_redo.specs.TransactionsOf.{kind_of, transaction_of, transactions_of}
+use Rattle.transaction_model.specs.LegalTransactions.{Legal, before}
+use Rattle.xact_redo.specs.TransactionsOf.{transaction_of, transactions_of}
 use Rattle.row_model.specs.Versions.{Version, changed_at, version_at, with_step, with_steps}
 use Rattle.row_model.specs.Locks.{locks, since, up_to_running}
 use Rattle.row_model.specs.RowSteps.{births, births_written, block_count, count_with, deleter_of_mark, own_steps, steps_in, update_steps, version_put, version_written, versions, view_after, view_with_record, whole_steps}
-use Rattle.row_model.specs.LegalSteps.{BirthStep, DeleterStep, KeepsTo, MultixactStep, RemovalStep, Unmarked}
-use Rattle.row_model.specs.LegalRows.{AnewRule, BlocksRule, CheckpointRule, ImageRule, LegalLog, OnlineLocks, are_apart, is_redo, is_redo_own, renews_first}
+use Rattle.row_model.specs.LegalSteps.{Unmarked}
+use Rattle.row_model.specs.LegalRows.{AnewRule, BlocksRule, ImageRule, LegalLog, OnlineLocks, are_apart, is_redo, is_redo_own, renews_first}
 use Rattle.row_model.specs.WorkedRows.{worked_ids, worked_log, worked_origin, worked_table}
 use Rattle.worked_logs.specs.Clauses.{Clause, Births, Deleters, Removals, Cut, Blocks, Locks, CheckpointLocks, Multixacts, Renews, Apart, Shutdowns, Transactions, NewMultixacts, Redone}
-use Rattle.transaction_model.proofs.NoIds.{among_one}
 use Rattle.worked_logs.proofs.OneMore.{Adds, IsBlockRule, WorkedKeeps, each_keeps, no_blocks, renews_two}
 use Rattle.transaction_model.specs.LegalTransactions.{TransactionOriginRule}
 use Rattle.std.specs.Prelude.{pos}
@@ -32,9 +31,8 @@ use Rattle.wal_bodies.specs.declared.types.RecKind.TheVariants.{BackupEnd, Check
 use Rattle.worked_archive.specs.WorkedArchive.{backup_end, commit_of_700, insert_by_700, inserted_block, known, log, online_checkpoint, rec_with, running_record}
 use Rattle.worked_logs.proofs.Legal.{keeping_is_legal_holds}
 use Rattle.row_model.specs.LegalRows.{LegalAlong, LegalTable, TableRule}
-use Rattle.row_model.specs.LegalSteps.{EachStep}
-use Rattle.row_model.specs.Versions.{RowStep}
-use Rattle.row_model.proofs.WorkedLog.{answered_view, no_locks}
+use Rattle.row_model.proofs.WorkedIds.{commit_rule}
+use Rattle.row_model.proofs.WorkedLog.{answered_view, no_locks, plain_rule}
 use Rattle.row_model.specs.WorkedRows.{worked_start}
 use Rattle.worked_logs.specs.ArchiveLog.{ArchiveIsLegal}
 use Rattle.pg_types.specs.Locators.{same_locator}
@@ -56,7 +54,7 @@ abbrev insert : Rec
 insert = rec_with insert_by_700 (Insert 1 0) (inserted_block ∷ [])
 
 abbrev commit : Rec
-commit = rec_with commit_of_700 (Ended (pos 0) 0 []) []
+commit = rec_with commit_of_700 (Ended (pos 0) 0 [] []) []
 
 abbrev at_start : List Rec
 at_start = ending ∷ checkpoint ∷ running ∷ []
@@ -98,7 +96,7 @@ renews_one log redo h from_begin =
 
 module _ (legal : Legal worked_ids (transactions_of worked_start)) where
   running_redone : is_ok (view_after worked_origin (worked_table ∷ []) (running ∷ [])) ≡ true
-  unfolding view_after view_with_record redone redone_at redone_block after after_change changed_page changed put_listed put tuple_of head_bytes view_with with_seen grown put_answer set_head_answer change_head update update_within update_old put_version joined is_tuple is_tuple_head with_item number_at head_of marked_mask marked_mask2 replaced deleted locked is_lock_only
+  unfolding view_after view_with_record redone_record redone redone_at redone_block after after_change changed_page changed put_listed put tuple_of head_bytes view_with with_seen grown put_answer set_head_answer change_head update update_within update_old put_version joined is_tuple is_tuple_head with_item number_at head_of marked_mask marked_mask2 replaced deleted locked is_lock_only
   running_redone = refl
 
   running_adds : (clause : Clause) → Adds clause [] running
@@ -108,7 +106,7 @@ module _ (legal : Legal worked_ids (transactions_of worked_start)) where
   running_adds Removals = tt
   running_adds Cut = tt
   running_adds Blocks = no_blocks [] (versions worked_origin worked_table []) (versions worked_origin worked_table (running ∷ []))
-  running_adds Locks = tt
+  running_adds Locks = no_locks worked_origin worked_table [] running refl refl refl
   running_adds CheckpointLocks = tt
   running_adds Multixacts = tt
   running_adds Renews = λ redo h. renews_one (running ∷ []) redo h refl
@@ -119,7 +117,7 @@ module _ (legal : Legal worked_ids (transactions_of worked_start)) where
   running_adds Redone = running_redone
 
   checkpoint_redone : is_ok (view_after worked_origin (worked_table ∷ []) (checkpoint ∷ (running ∷ []))) ≡ true
-  unfolding view_after view_with_record redone redone_at redone_block after after_change changed_page changed put_listed put tuple_of head_bytes view_with with_seen grown put_answer set_head_answer change_head update update_within update_old put_version joined is_tuple is_tuple_head with_item number_at head_of marked_mask marked_mask2 replaced deleted locked is_lock_only
+  unfolding view_after view_with_record redone_record redone redone_at redone_block after after_change changed_page changed put_listed put tuple_of head_bytes view_with with_seen grown put_answer set_head_answer change_head update update_within update_old put_version joined is_tuple is_tuple_head with_item number_at head_of marked_mask marked_mask2 replaced deleted locked is_lock_only
   checkpoint_redone = refl
 
   checkpoint_adds : (clause : Clause) → Adds clause (running ∷ []) checkpoint
@@ -129,7 +127,7 @@ module _ (legal : Legal worked_ids (transactions_of worked_start)) where
   checkpoint_adds Removals = tt
   checkpoint_adds Cut = tt
   checkpoint_adds Blocks = no_blocks (running ∷ []) (versions worked_origin worked_table (running ∷ [])) (versions worked_origin worked_table (checkpoint ∷ (running ∷ [])))
-  checkpoint_adds Locks = tt
+  checkpoint_adds Locks = no_locks worked_origin worked_table (running ∷ []) checkpoint refl refl refl
   checkpoint_adds CheckpointLocks = archive_locks
   checkpoint_adds Multixacts = tt
   checkpoint_adds Renews = λ redo h. renews_two (checkpoint ∷ (running ∷ [])) redo h refl refl
@@ -140,7 +138,7 @@ module _ (legal : Legal worked_ids (transactions_of worked_start)) where
   checkpoint_adds Redone = checkpoint_redone
 
   ending_redone : is_ok (view_after worked_origin (worked_table ∷ []) (ending ∷ (checkpoint ∷ running ∷ []))) ≡ true
-  unfolding view_after view_with_record redone redone_at redone_block after after_change changed_page changed put_listed put tuple_of head_bytes view_with with_seen grown put_answer set_head_answer change_head update update_within update_old put_version joined is_tuple is_tuple_head with_item number_at head_of marked_mask marked_mask2 replaced deleted locked is_lock_only
+  unfolding view_after view_with_record redone_record redone redone_at redone_block after after_change changed_page changed put_listed put tuple_of head_bytes view_with with_seen grown put_answer set_head_answer change_head update update_within update_old put_version joined is_tuple is_tuple_head with_item number_at head_of marked_mask marked_mask2 replaced deleted locked is_lock_only
   ending_redone = refl
 
   ending_adds : (clause : Clause) → Adds clause (checkpoint ∷ running ∷ []) ending
@@ -150,7 +148,7 @@ module _ (legal : Legal worked_ids (transactions_of worked_start)) where
   ending_adds Removals = tt
   ending_adds Cut = tt
   ending_adds Blocks = no_blocks (checkpoint ∷ running ∷ []) (versions worked_origin worked_table (checkpoint ∷ running ∷ [])) (versions worked_origin worked_table (ending ∷ (checkpoint ∷ running ∷ [])))
-  ending_adds Locks = tt
+  ending_adds Locks = no_locks worked_origin worked_table (checkpoint ∷ running ∷ []) ending refl refl refl
   ending_adds CheckpointLocks = tt
   ending_adds Multixacts = tt
   ending_adds Renews = λ redo h. renews_two (ending ∷ (checkpoint ∷ running ∷ [])) redo h refl refl
@@ -168,15 +166,6 @@ commit_live : Live worked_ids.at 700 (transactions_of (insert ∷ at_start))
 unfolding ended transaction_of
 commit_live = record { normal = omega arith; not_ended = refl }
 
-commit_rule : CommitRule worked_ids 700 [] (transactions_of (insert ∷ at_start))
-commit_rule =
-    record {
-      is_top = refl;
-      live = λ x h. subst (λ (y : ℕ). Live worked_ids.at y (transactions_of (insert ∷ at_start))) (among_one x 700 h) commit_live;
-      are_subs = λ x h. absurd (false≢true h);
-      all = λ _ x l e. or_left (700 == x) false (eq-eqb 700 x (sym e));
-    }
-
 insert_blocks : BlocksRule worked_origin worked_table at_start [] (versions worked_origin worked_table (insert ∷ at_start)) (inserted_block ∷ [])
 unfolding version_at
 insert_blocks =
@@ -184,7 +173,7 @@ insert_blocks =
     (λ e. (tt, λ anew line. refl)) (All-nil (IsBlockRule at_start [] (versions worked_origin worked_table (insert ∷ at_start))))
 
 insert_redone : is_ok (view_after worked_origin (worked_table ∷ []) (insert ∷ at_start)) ≡ true
-unfolding view_after view_with_record redone redone_at redone_block after after_change changed_page changed put_listed put tuple_of head_bytes view_with with_seen grown put_answer set_head_answer change_head update update_within update_old put_version joined is_tuple is_tuple_head with_item number_at head_of marked_mask marked_mask2 replaced deleted locked is_lock_only
+unfolding view_after view_with_record redone_record redone redone_at redone_block after after_change changed_page changed put_listed put tuple_of head_bytes view_with with_seen grown put_answer set_head_answer change_head update update_within update_old put_version joined is_tuple is_tuple_head with_item number_at head_of marked_mask marked_mask2 replaced deleted locked is_lock_only
 insert_redone = refl
 
 insert_adds : (clause : Clause) → Adds clause at_start insert
@@ -194,7 +183,7 @@ insert_adds Deleters = (tt, tt)
 insert_adds Removals = (tt, tt)
 insert_adds Cut = tt
 insert_adds Blocks = insert_blocks
-insert_adds Locks = tt
+insert_adds Locks = no_locks worked_origin worked_table at_start insert refl refl refl
 insert_adds CheckpointLocks = tt
 insert_adds Multixacts = (tt, tt)
 insert_adds Renews = λ redo h. renews_two (insert ∷ at_start) redo h refl refl
@@ -205,7 +194,7 @@ insert_adds NewMultixacts = tt
 insert_adds Redone = insert_redone
 
 commit_redone : is_ok (view_after worked_origin (worked_table ∷ []) (commit ∷ (insert ∷ at_start))) ≡ true
-unfolding view_after view_with_record redone redone_at redone_block after after_change changed_page changed put_listed put tuple_of head_bytes view_with with_seen grown put_answer set_head_answer change_head update update_within update_old put_version joined is_tuple is_tuple_head with_item number_at head_of marked_mask marked_mask2 replaced deleted locked is_lock_only
+unfolding view_after view_with_record redone_record redone redone_at redone_block after after_change changed_page changed put_listed put tuple_of head_bytes view_with with_seen grown put_answer set_head_answer change_head update update_within update_old put_version joined is_tuple is_tuple_head with_item number_at head_of marked_mask marked_mask2 replaced deleted locked is_lock_only
 commit_redone = refl
 
 commit_adds : (clause : Clause) → Adds clause (insert ∷ at_start) commit
@@ -215,13 +204,13 @@ commit_adds Deleters = tt
 commit_adds Removals = tt
 commit_adds Cut = tt
 commit_adds Blocks = no_blocks (insert ∷ at_start) (versions worked_origin worked_table (insert ∷ at_start)) (versions worked_origin worked_table (commit ∷ (insert ∷ at_start)))
-commit_adds Locks = tt
+commit_adds Locks = no_locks worked_origin worked_table (insert ∷ at_start) commit refl refl refl
 commit_adds CheckpointLocks = tt
 commit_adds Multixacts = tt
 commit_adds Renews = λ redo h. renews_two (commit ∷ (insert ∷ at_start)) redo h refl refl
 commit_adds Apart = refl
 commit_adds Shutdowns = refl
-commit_adds Transactions = λ legal. (commit_rule, legal)
+commit_adds Transactions = λ legal. (commit_rule 700 (transactions_of (insert ∷ at_start)) commit_live, legal)
 commit_adds NewMultixacts = tt
 commit_adds Redone = commit_redone
 
@@ -230,42 +219,14 @@ abbrev other_table : Locator
 other_table = record { space = 1663; db = 16384; rel = 16390 }
 
 both_redone : is_ok (view_after worked_origin known log) ≡ true
-unfolding view_after view_with_record redone redone_at redone_block after after_change changed_page changed put_listed put tuple_of head_bytes view_with with_seen grown put_answer set_head_answer change_head update update_within update_old put_version joined is_tuple is_tuple_head with_item number_at head_of marked_mask marked_mask2 replaced deleted locked is_lock_only
+unfolding view_after view_with_record redone_record redone redone_at redone_block after after_change changed_page changed put_listed put tuple_of head_bytes view_with with_seen grown put_answer set_head_answer change_head update update_within update_old put_version joined is_tuple is_tuple_head with_item number_at head_of marked_mask marked_mask2 replaced deleted locked is_lock_only
 both_redone = refl
 
--- what a record keeps to in one of its blocks, and in its steps, in the other table
+-- what a record keeps to in one of its blocks in the other table
 abbrev IsOtherRule : List Rec → List Version → List Version → RecBlock → Type 0
 IsOtherRule older before after block =
     same_locator other_table block.locator ≡ true
     → ImageRule worked_origin older after block.block (applied block.image) × AnewRule before block
-
-no_steps :
-    (Rule : List Version → RowStep → Type 0) (older : List Rec) (rec : Rec) → rec.blocks ≡ []
-    → KeepsTo Rule worked_origin other_table older rec
-unfolding steps_in
-no_steps Rule older rec none =
-    subst (λ (blocks : List RecBlock).
-    EachStep Rule (versions worked_origin other_table older)
-    (steps_in rec other_table (block_count worked_origin other_table older) (versions worked_origin other_table older) blocks))
-    (sym none) tt
-
-other_plain :
-    (older : List Rec) (rec : Rec) → rec.blocks ≡ [] → CheckpointRule worked_origin other_table older (kind_of rec.head rec.kind)
-    → TableRule worked_origin other_table older rec
-unfolding steps_in
-other_plain older rec none checkpoint =
-    record {
-      births = no_steps (BirthStep worked_origin other_table older) older rec none;
-      deleters = no_steps (DeleterStep worked_origin older) older rec none;
-      removals = no_steps (RemovalStep worked_origin older 0) older rec none;
-      cut = tt;
-      blocks =
-          subst (BlocksRule worked_origin other_table older (versions worked_origin other_table older) (versions worked_origin other_table (rec ∷ older)))
-          (sym none) (All-nil (IsOtherRule older (versions worked_origin other_table older) (versions worked_origin other_table (rec ∷ older))));
-      locks = no_locks worked_origin other_table older rec;
-      checkpoint = checkpoint;
-      multixacts = no_steps (MultixactStep older) older rec none;
-    }
 
 other_insert : TableRule worked_origin other_table at_start insert
 unfolding steps_in
@@ -279,7 +240,7 @@ other_insert =
           All-cons (IsOtherRule at_start (versions worked_origin other_table at_start) (versions worked_origin other_table (insert ∷ at_start)))
           inserted_block [] (λ e. absurd (false≢true e))
           (All-nil (IsOtherRule at_start (versions worked_origin other_table at_start) (versions worked_origin other_table (insert ∷ at_start))));
-      locks = no_locks worked_origin other_table at_start insert;
+      locks = no_locks worked_origin other_table at_start insert refl refl refl;
       checkpoint = tt;
       multixacts = tt;
     }
@@ -290,12 +251,12 @@ other_locks = record { running = λ e. cc; rewritten = λ x held live. absurd (f
 
 other_along : LegalAlong worked_origin other_table log
 other_along = (
-  other_plain (insert ∷ at_start) commit refl tt,
+  plain_rule worked_origin other_table (insert ∷ at_start) commit refl refl refl refl tt,
   (
     other_insert,
     (
-      other_plain (checkpoint ∷ running ∷ []) ending refl tt,
-      (other_plain (running ∷ []) checkpoint refl other_locks, (other_plain [] running refl tt, tt)),
+      plain_rule worked_origin other_table (checkpoint ∷ running ∷ []) ending refl refl refl refl tt,
+      (plain_rule worked_origin other_table (running ∷ []) checkpoint refl refl refl refl other_locks, (plain_rule worked_origin other_table [] running refl refl refl refl tt, tt)),
     ),
   ),
 )

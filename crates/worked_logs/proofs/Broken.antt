@@ -16,6 +16,20 @@ use Rattle.worked_logs.proofs.BrokenCheckpoint.{checkpoint_only}
 use Rattle.worked_logs.proofs.RunningAgain.{running_keeps}
 use Rattle.worked_logs.proofs.CheckpointAgain.{again_keeps}
 use Rattle.worked_logs.proofs.BrokenRenews.{renews_only}
+use Rattle.worked_logs.proofs.BrokenRemovals.{removals_only}
+use Rattle.worked_logs.proofs.BrokenHorizon.{horizon_only}
+use Rattle.worked_logs.proofs.BrokenFreeze.{frozen_only}
+use Rattle.worked_logs.proofs.LockedLog.{locked_keeps}
+use Rattle.worked_logs.proofs.BrokenMarks.{marks_only}
+use Rattle.worked_logs.proofs.BrokenLive.{inserted_keeps, live_only}
+use Rattle.worked_logs.proofs.BrokenBorn.{born_only}
+use Rattle.worked_logs.proofs.BrokenOther.{other_only}
+use Rattle.worked_logs.proofs.BrokenCut.{cut_only}
+use Rattle.worked_logs.proofs.BrokenLocks.{unlocked_cut_only, unlocked_drop_only}
+use Rattle.worked_logs.proofs.DroppedLog.{dropped_keeps}
+use Rattle.worked_logs.proofs.BrokenGone.{gone_only}
+use Rattle.worked_logs.proofs.RunningLocked.{running_keeps as holder_runs}
+use Rattle.worked_logs.proofs.BrokenRewritten.{rewritten_only}
 
 pub each_breaks_holds : LegalLog worked_origin (worked_table ∷ []) worked_log → EachBreaks
 each_breaks_holds legal =
@@ -31,4 +45,16 @@ each_breaks_holds legal =
       shutdowns = shutdowns_only keeps;
       checkpoint = checkpoint_only keeps;
       renews = renews_only (again_keeps (running_keeps keeps));
+      removals = removals_only keeps;
+      horizon = horizon_only keeps;
+      frozen = frozen_only keeps;
+      marks = marks_only keeps;
+      live = live_only (inserted_keeps keeps);
+      born_frozen = born_only keeps;
+      cut = cut_only (locked_keeps keeps);
+      cut_unlocked = unlocked_cut_only keeps;
+      other_lock = other_only (locked_keeps keeps);
+      drop_unlocked = unlocked_drop_only keeps;
+      gone = gone_only (dropped_keeps (locked_keeps keeps));
+      rewritten = rewritten_only (holder_runs (locked_keeps keeps));
     }

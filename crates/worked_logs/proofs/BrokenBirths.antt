@@ -5,7 +5,7 @@ use Rattle.pg_types.specs.Numbers.{number_at}
 use Rattle.heap_tuple.specs.Tuple.{is_lock_only, is_tuple, is_tuple_head, max_of}
 use Rattle.heap_page.specs.Item.{with_item}
 use Rattle.heap_page.specs.Put.{put_answer, set_head_answer}
-use Rattle.heap_redo.specs.Redone.{grown, redone, redone_at, redone_block, view_with, with_seen}
+use Rattle.heap_redo.specs.Redone.{grown, redone, redone_record, redone_at, redone_block, view_with, with_seen}
 use Rattle.heap_redo.specs.After.{after, after_change, change_head, changed, changed_page, joined, put, put_listed, put_version, tuple_of, update, update_old, update_within}
 use Rattle.heap_redo.specs.TupleHeads.{deleted, head_bytes, head_of, locked, marked_mask, marked_mask2, replaced}
 use Rattle.transaction_model.specs.Transactions.{ended}
@@ -17,6 +17,7 @@ use Rattle.row_model.specs.Locks.{locks, since, up_to_running}
 use Rattle.row_model.specs.RowSteps.{births, births_written, block_count, count_with, deleter_of_mark, own_steps, steps_in, update_steps, version_put, version_written, versions, view_after, view_with_record, whole_steps}
 use Rattle.row_model.specs.LegalRows.{are_apart, renews_first}
 use Rattle.row_model.specs.WorkedRows.{worked_log, worked_origin, worked_table}
+use Rattle.row_model.proofs.WorkedLog.{no_locks}
 use Rattle.worked_logs.specs.Clauses.{Clause, Births, Deleters, Removals, Cut, Blocks, Locks, CheckpointLocks, Multixacts, Renews, Apart, Shutdowns, Transactions, NewMultixacts, Redone, Keeps}
 use Rattle.worked_logs.specs.BrokenLogs.{BreaksOnly, insert_by_ended}
 use Rattle.worked_logs.proofs.OneMore.{Adds, WorkedKeeps, block_rule, breaks_only, renews_two}
@@ -26,7 +27,7 @@ unfolding versions block_count steps_in count_with own_steps births births_writt
 births_live keeps = keeps.0.0.live
 
 births_redone : is_ok (view_after worked_origin (worked_table ∷ []) (insert_by_ended ∷ worked_log)) ≡ true
-unfolding view_after view_with_record redone redone_at redone_block after after_change changed_page changed put_listed put tuple_of head_bytes view_with with_seen grown put_answer set_head_answer change_head update update_within update_old put_version joined is_tuple is_tuple_head with_item number_at head_of marked_mask marked_mask2 replaced deleted locked is_lock_only
+unfolding view_after view_with_record redone_record redone redone_at redone_block after after_change changed_page changed put_listed put tuple_of head_bytes view_with with_seen grown put_answer set_head_answer change_head update update_within update_old put_version joined is_tuple is_tuple_head with_item number_at head_of marked_mask marked_mask2 replaced deleted locked is_lock_only
 births_redone = refl
 
 births_adds : (clause : Clause) → clause ≢ Births → Adds clause worked_log insert_by_ended
@@ -36,7 +37,7 @@ births_adds Deleters ne = (tt, tt)
 births_adds Removals ne = (tt, tt)
 births_adds Cut ne = tt
 births_adds Blocks ne = block_rule worked_log (versions worked_origin worked_table worked_log) (versions worked_origin worked_table (insert_by_ended ∷ worked_log))
-births_adds Locks ne = tt
+births_adds Locks ne = no_locks worked_origin worked_table worked_log insert_by_ended refl refl refl
 births_adds CheckpointLocks ne = tt
 births_adds Multixacts ne = (tt, tt)
 births_adds Renews ne = λ redo h. renews_two (insert_by_ended ∷ worked_log) redo h refl refl

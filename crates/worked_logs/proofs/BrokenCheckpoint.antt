@@ -4,7 +4,7 @@ use Rattle.pg_types.specs.Numbers.{number_at}
 use Rattle.heap_tuple.specs.Tuple.{is_lock_only, is_tuple, is_tuple_head, max_of}
 use Rattle.heap_page.specs.Item.{with_item}
 use Rattle.heap_page.specs.Put.{put_answer, set_head_answer}
-use Rattle.heap_redo.specs.Redone.{grown, redone, redone_at, redone_block, view_with, with_seen}
+use Rattle.heap_redo.specs.Redone.{grown, redone, redone_record, redone_at, redone_block, view_with, with_seen}
 use Rattle.heap_redo.specs.After.{after, after_change, change_head, changed, changed_page, joined, put, put_listed, put_version, tuple_of, update, update_old, update_within}
 use Rattle.heap_redo.specs.TupleHeads.{deleted, head_bytes, head_of, locked, marked_mask, marked_mask2, replaced}
 use Rattle.transaction_model.specs.LegalTransactions.{Legal}
@@ -14,13 +14,14 @@ use Rattle.row_model.specs.Locks.{locks, since, up_to_running}
 use Rattle.row_model.specs.RowSteps.{births, births_written, block_count, count_with, deleter_of_mark, own_steps, steps_in, update_steps, version_put, version_written, versions, view_after, view_with_record, whole_steps}
 use Rattle.row_model.specs.LegalRows.{are_apart, renews_first}
 use Rattle.row_model.specs.WorkedRows.{worked_log, worked_origin, worked_table}
+use Rattle.row_model.proofs.WorkedLog.{no_locks}
 use Rattle.worked_logs.specs.Clauses.{Clause, Births, Deleters, Removals, Cut, Blocks, Locks, CheckpointLocks, Multixacts, Renews, Apart, Shutdowns, Transactions, NewMultixacts, Redone, Keeps}
 use Rattle.worked_logs.specs.BrokenLogs.{BreaksOnly, checkpoint_alone}
 use Rattle.worked_logs.proofs.OneMore.{Adds, WorkedKeeps, breaks_only, no_blocks, renews_three}
 use Rattle.worked_logs.proofs.NextId.{alone_rule}
 
 checkpoint_redone : is_ok (view_after worked_origin (worked_table ∷ []) (checkpoint_alone ∷ worked_log)) ≡ true
-unfolding view_after view_with_record redone redone_at redone_block after after_change changed_page changed put_listed put tuple_of head_bytes view_with with_seen grown put_answer set_head_answer change_head update update_within update_old put_version joined is_tuple is_tuple_head with_item number_at head_of marked_mask marked_mask2 replaced deleted locked is_lock_only
+unfolding view_after view_with_record redone_record redone redone_at redone_block after after_change changed_page changed put_listed put tuple_of head_bytes view_with with_seen grown put_answer set_head_answer change_head update update_within update_old put_version joined is_tuple is_tuple_head with_item number_at head_of marked_mask marked_mask2 replaced deleted locked is_lock_only
 checkpoint_redone = refl
 
 checkpoint_adds : (clause : Clause) → clause ≢ CheckpointLocks → Adds clause worked_log checkpoint_alone
@@ -30,10 +31,10 @@ checkpoint_adds Deleters ne = tt
 checkpoint_adds Removals ne = tt
 checkpoint_adds Cut ne = tt
 checkpoint_adds Blocks ne = no_blocks worked_log (versions worked_origin worked_table worked_log) (versions worked_origin worked_table (checkpoint_alone ∷ worked_log))
-checkpoint_adds Locks ne = tt
+checkpoint_adds Locks ne = no_locks worked_origin worked_table worked_log checkpoint_alone refl refl refl
 checkpoint_adds CheckpointLocks ne = absurd (ne refl)
 checkpoint_adds Multixacts ne = tt
-checkpoint_adds Renews ne = λ redo h. renews_three (checkpoint_alone ∷ worked_log) redo h refl refl refl
+checkpoint_adds Renews ne = λ redo h. renews_three 0x20001F0 (checkpoint_alone ∷ worked_log) redo h refl refl refl
 checkpoint_adds Apart ne = refl
 checkpoint_adds Shutdowns ne = refl
 checkpoint_adds Transactions ne = λ legal. (alone_rule, legal)

@@ -4,7 +4,7 @@ use Rattle.pg_types.specs.Numbers.{number_at}
 use Rattle.heap_tuple.specs.Tuple.{is_lock_only, is_tuple, is_tuple_head, max_of}
 use Rattle.heap_page.specs.Item.{with_item}
 use Rattle.heap_page.specs.Put.{put_answer, set_head_answer}
-use Rattle.heap_redo.specs.Redone.{grown, redone, redone_at, redone_block, view_with, with_seen}
+use Rattle.heap_redo.specs.Redone.{grown, redone, redone_record, redone_at, redone_block, view_with, with_seen}
 use Rattle.heap_redo.specs.After.{after, after_change, change_head, changed, changed_page, joined, put, put_listed, put_version, tuple_of, update, update_old, update_within}
 use Rattle.heap_redo.specs.TupleHeads.{deleted, head_bytes, head_of, locked, marked_mask, marked_mask2, replaced}
 use Rattle.transaction_model.specs.LegalTransactions.{Legal}
@@ -15,12 +15,13 @@ use Rattle.row_model.specs.RowSteps.{births, births_written, block_count, count_
 use Rattle.row_model.specs.LegalSteps.{Stays}
 use Rattle.row_model.specs.LegalRows.{are_apart, renews_first}
 use Rattle.row_model.specs.WorkedRows.{worked_log, worked_origin, worked_table}
+use Rattle.row_model.proofs.WorkedLog.{no_locks}
 use Rattle.worked_logs.specs.Clauses.{Clause, Births, Deleters, Removals, Cut, Blocks, Locks, CheckpointLocks, Multixacts, Renews, Apart, Shutdowns, Transactions, NewMultixacts, Redone, Keeps}
 use Rattle.worked_logs.specs.BrokenLogs.{BreaksOnly, lock_by_unmade}
 use Rattle.worked_logs.proofs.OneMore.{Adds, WorkedKeeps, bare_rule, breaks_only, no_blocks, renews_two}
 
 multixacts_redone : is_ok (view_after worked_origin (worked_table ∷ []) (lock_by_unmade ∷ worked_log)) ≡ true
-unfolding view_after view_with_record redone redone_at redone_block after after_change changed_page changed put_listed put tuple_of head_bytes view_with with_seen grown put_answer set_head_answer change_head update update_within update_old put_version joined is_tuple is_tuple_head with_item number_at head_of marked_mask marked_mask2 replaced deleted locked is_lock_only
+unfolding view_after view_with_record redone_record redone redone_at redone_block after after_change changed_page changed put_listed put tuple_of head_bytes view_with with_seen grown put_answer set_head_answer change_head update update_within update_old put_version joined is_tuple is_tuple_head with_item number_at head_of marked_mask marked_mask2 replaced deleted locked is_lock_only
 multixacts_redone = refl
 
 multixacts_adds : (clause : Clause) → clause ≢ Multixacts → Adds clause worked_log lock_by_unmade
@@ -30,7 +31,7 @@ multixacts_adds Deleters ne = (Stays refl, tt)
 multixacts_adds Removals ne = (tt, tt)
 multixacts_adds Cut ne = tt
 multixacts_adds Blocks ne = bare_rule worked_log (versions worked_origin worked_table worked_log) (versions worked_origin worked_table (lock_by_unmade ∷ worked_log)) 0 [] (no_blocks worked_log (versions worked_origin worked_table worked_log) (versions worked_origin worked_table (lock_by_unmade ∷ worked_log)))
-multixacts_adds Locks ne = tt
+multixacts_adds Locks ne = no_locks worked_origin worked_table worked_log lock_by_unmade refl refl refl
 multixacts_adds CheckpointLocks ne = tt
 multixacts_adds Multixacts ne = absurd (ne refl)
 multixacts_adds Renews ne = λ redo h. renews_two (lock_by_unmade ∷ worked_log) redo h refl refl

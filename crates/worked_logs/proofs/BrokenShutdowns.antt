@@ -7,7 +7,7 @@ use Rattle.wal_bodies.specs.declared.types.Rec.{Rec}
 use Rattle.heap_tuple.specs.Tuple.{is_lock_only, is_tuple, is_tuple_head, max_of}
 use Rattle.heap_page.specs.Item.{with_item}
 use Rattle.heap_page.specs.Put.{put_answer, set_head_answer}
-use Rattle.heap_redo.specs.Redone.{grown, redone, redone_at, redone_block, view_with, with_seen}
+use Rattle.heap_redo.specs.Redone.{grown, redone, redone_record, redone_at, redone_block, view_with, with_seen}
 use Rattle.heap_redo.specs.After.{after, after_change, change_head, changed, changed_page, joined, put, put_listed, put_version, tuple_of, update, update_old, update_within}
 use Rattle.heap_redo.specs.TupleHeads.{deleted, head_bytes, head_of, locked, marked_mask, marked_mask2, replaced}
 use Rattle.transaction_model.specs.LegalTransactions.{Legal}
@@ -17,13 +17,14 @@ use Rattle.row_model.specs.Locks.{locks, since, up_to_running}
 use Rattle.row_model.specs.RowSteps.{births, births_written, block_count, count_with, deleter_of_mark, own_steps, steps_in, update_steps, version_put, version_written, versions, view_after, view_with_record, whole_steps}
 use Rattle.row_model.specs.LegalRows.{are_apart, is_redo_own, renews_first}
 use Rattle.row_model.specs.WorkedRows.{worked_log, worked_origin, worked_table}
+use Rattle.row_model.proofs.WorkedLog.{no_locks}
 use Rattle.worked_logs.specs.Clauses.{Clause, Births, Deleters, Removals, Cut, Blocks, Locks, CheckpointLocks, Multixacts, Renews, Apart, Shutdowns, Transactions, NewMultixacts, Redone, Keeps}
 use Rattle.worked_logs.specs.BrokenLogs.{BreaksOnly, shutdown_elsewhere}
 use Rattle.worked_logs.proofs.OneMore.{Adds, WorkedKeeps, breaks_only, no_blocks, renews_three}
 use Rattle.worked_logs.proofs.NextId.{shutdown_rule}
 
 shutdowns_redone : is_ok (view_after worked_origin (worked_table ∷ []) (shutdown_elsewhere ∷ worked_log)) ≡ true
-unfolding view_after view_with_record redone redone_at redone_block after after_change changed_page changed put_listed put tuple_of head_bytes view_with with_seen grown put_answer set_head_answer change_head update update_within update_old put_version joined is_tuple is_tuple_head with_item number_at head_of marked_mask marked_mask2 replaced deleted locked is_lock_only
+unfolding view_after view_with_record redone_record redone redone_at redone_block after after_change changed_page changed put_listed put tuple_of head_bytes view_with with_seen grown put_answer set_head_answer change_head update update_within update_old put_version joined is_tuple is_tuple_head with_item number_at head_of marked_mask marked_mask2 replaced deleted locked is_lock_only
 shutdowns_redone = refl
 
 shutdowns_adds : (clause : Clause) → clause ≢ Shutdowns → Adds clause worked_log shutdown_elsewhere
@@ -33,10 +34,10 @@ shutdowns_adds Deleters ne = tt
 shutdowns_adds Removals ne = tt
 shutdowns_adds Cut ne = tt
 shutdowns_adds Blocks ne = no_blocks worked_log (versions worked_origin worked_table worked_log) (versions worked_origin worked_table (shutdown_elsewhere ∷ worked_log))
-shutdowns_adds Locks ne = tt
+shutdowns_adds Locks ne = no_locks worked_origin worked_table worked_log shutdown_elsewhere refl refl refl
 shutdowns_adds CheckpointLocks ne = tt
 shutdowns_adds Multixacts ne = tt
-shutdowns_adds Renews ne = λ redo h. renews_three (shutdown_elsewhere ∷ worked_log) redo h refl refl refl
+shutdowns_adds Renews ne = λ redo h. renews_three 0x20001F0 (shutdown_elsewhere ∷ worked_log) redo h refl refl refl
 shutdowns_adds Apart ne = refl
 shutdowns_adds Shutdowns ne = absurd (ne refl)
 shutdowns_adds Transactions ne = λ legal. (shutdown_rule, legal)

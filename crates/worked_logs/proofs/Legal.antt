@@ -1,18 +1,10 @@
 -- A legal log is one that keeps each clause, and so is each of its fronts.
-use Rattle.std.proofs.Common.{◌≡◌, ℕ, true, List, [], ◌∷◌, All, Result, Ok, Err, refl, inl, inr}
-use Rattle.std.proofs.lemmas.Bool.{and_parts, or_cases, or_left, or_right}
-use Rattle.std.proofs.lemmas.List.Elements.{All-cons, All-head, All-nil, All-tail}
-use Rattle.std.specs.Prelude.{◌==◌}
-use Rattle.std.specs.List.{list_any}
+use Rattle.std.proofs.Common.{List, [], ◌∷◌}
+use Rattle.std.proofs.lemmas.List.Elements.{All-cons, All-head, All-nil}
 use Rattle.pg_types.specs.declared.names.Locator.{Locator}
 use Rattle.wal_bodies.specs.declared.types.Rec.{Rec}
-use Rattle.page_store.specs.Seen.{View}
-use Rattle.heap_redo.specs.declared.fault.RedoFault.{RedoFault}
-use Rattle.transaction_model.specs.LegalTransactions.{Legal}
-use Rattle.xact_redo.specs.TransactionsOf.{kind_of}
 use Rattle.row_model.specs.Origins.{LogOrigin}
-use Rattle.row_model.specs.RowSteps.{view_after, view_with_record}
-use Rattle.row_model.specs.LegalRows.{LegalAlong, LegalTable, TableRule, are_apart, has_redo, is_redo, is_redo_own, renews, renews_first}
+use Rattle.row_model.specs.LegalRows.{LegalAlong, LegalTable, TableRule}
 use Rattle.worked_logs.specs.Clauses.{Along, Births, Deleters, Removals, Cut, Blocks, Locks, CheckpointLocks, Multixacts, Renews, Apart, Shutdowns, Transactions, NewMultixacts, Redone, Keeps, KeepingIsLegal, LegalKeeps}
 
 -- a part of a table's rules, along a log

@@ -7,7 +7,6 @@ use Rattle.transaction_model.specs.LegalTransactions.{IsNext, OnlineRule, Runnin
 use Rattle.xact_redo.specs.TransactionsOf.{transaction_of, transactions_of}
 use Rattle.row_model.specs.WorkedRows.{worked_ids, worked_log}
 use Rattle.worked_logs.specs.BrokenLogs.{checkpoint_again, checkpoint_alone, running_again, shutdown_elsewhere}
-use Rattle.known_assigned.specs.declared.state.RunningHead.{RunningHead}
 use Rattle.transaction_model.proofs.NoIds.{among_one, none_ended_at, nothing_head, nothing_rule}
 
 -- an id that is seen is among those of the log
@@ -50,14 +49,14 @@ low_all x h =
       | inr later ↦ at_most 701 702 x (sees_first x) (omega arith) (low_first x) later
     ]
 
-seen_in_worked : (x : ℕ) → named x (transactions_of worked_log) ≡ true → x < 702
+pub seen_in_worked : (x : ℕ) → named x (transactions_of worked_log) ≡ true → x < 702
 unfolding named transaction_of
 seen_in_worked x h = low_all x h
 
 pub not_one : (n x : ℕ) → n < x → is_among x (n ∷ []) ≡ false
 not_one n x low = false_from_ne_true (is_among x (n ∷ [])) (λ h. let e = among_one x n h in omega arith)
 
-not_ended : (x : ℕ) → 702 ≤ x → ended worked_ids.at x (transactions_of worked_log) ≡ false
+pub not_ended : (x : ℕ) → 702 ≤ x → ended worked_ids.at x (transactions_of worked_log) ≡ false
 unfolding ended transaction_of
 not_ended x high =
     or_from (is_among x (701 ∷ [])) _ (not_one 701 x (omega arith))

@@ -1,6 +1,6 @@
 -- The second log keeps to the rules of transactions.
 use Rattle.std.proofs.Common.{◌≡◌, ℕ, ◌<◌, ◌≤◌, Bool, true, false, ◌==◌, ◌||◌, nat_lt, List, [], ◌∷◌, arith, refl, sym, ap, ◌∙◌, subst, inl, inr}
-use Rattle.std.proofs.lemmas.Bool.{both_ways, eq-eqb, eqb-true, false_from_ne_true, false≢true, le-ltb, lt-ltb, or_cases, or_from, or_left, or_right}
+use Rattle.std.proofs.lemmas.Bool.{both_ways, eq-eqb, eqb-true, false≢true, le-ltb, lt-ltb, or_cases, or_from, or_left, or_right}
 use Rattle.known_assigned.specs.Ids.{is_among}
 use Rattle.transaction_model.specs.Transactions.{TransactionRecord, Live, committed, ended, named}
 use Rattle.transaction_model.specs.LegalTransactions.{CommitRule, IsNext, Legal, OnlineRule, RunningRule, before, greatest_next, last_redo, starts_at}

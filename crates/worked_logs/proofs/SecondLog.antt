@@ -1,28 +1,26 @@
 -- The second log is legal, and its rows are as worked.
-use Rattle.std.proofs.Common.{◌≡◌, ℕ, Bool, true, false, ◌==◌, ◌||◌, List, [], ◌∷◌, All, is_ok, Some, None, arith, refl, sym, ap, ◌∙◌, subst, inl, inr}
-use Rattle.std.proofs.lemmas.Bool.{and_parts, eqb-true, false_from_ne_true, false≢true, or_cases}
+use Rattle.std.proofs.Common.{◌≡◌, ℕ, Bool, true, false, ◌==◌, ◌||◌, List, [], ◌∷◌, is_ok, Some, None, arith, refl, sym, ap, ◌∙◌, subst, inl, inr}
+use Rattle.std.proofs.lemmas.Bool.{eqb-true, false_from_ne_true, false≢true, or_cases}
 use Rattle.std.proofs.lemmas.List.Elements.{All-cons, All-nil}
 use Rattle.pg_types.specs.Numbers.{number_at}
-use Rattle.pg_types.specs.declared.names.Locator.{Locator}
 use Rattle.wal_bodies.specs.declared.types.RecBlock.{RecBlock}
 use Rattle.wal_bodies.specs.declared.types.Rec.{Rec}
 use Rattle.heap_tuple.specs.Tuple.{is_lock_only, is_tuple, is_tuple_head, max_of}
 use Rattle.heap_page.specs.Item.{with_item}
 use Rattle.heap_page.specs.Put.{put_answer, set_head_answer}
-use Rattle.heap_redo.specs.Redone.{grown, redone, redone_at, redone_block, view_with, with_seen}
+use Rattle.heap_redo.specs.Redone.{grown, redone, redone_record, redone_at, redone_block, view_with, with_seen}
 use Rattle.heap_redo.specs.After.{after, after_change, change_head, changed, changed_page, joined, put, put_listed, put_version, tuple_of, update, update_old, update_within}
 use Rattle.heap_redo.specs.TupleHeads.{deleted, head_bytes, head_of, locked, marked_mask, marked_mask2, replaced}
 use Rattle.transaction_model.specs.Transactions.{committed, ended}
 use Rattle.transaction_model.specs.LegalTransactions.{Legal}
-use Rattle.xact_redo.specs.TransactionsOf.{kind_of, transaction_of, transactions_of}
+use Rattle.xact_redo.specs.TransactionsOf.{transaction_of, transactions_of}
 use Rattle.row_model.specs.Versions.{Version, changed_at, version_at, with_step, with_steps}
 use Rattle.row_model.specs.Origins.{committed_in}
 use Rattle.row_model.specs.Locks.{locks, since, up_to_running}
 use Rattle.row_model.specs.RowSteps.{births, births_written, block_count, count_with, deleter_of_mark, own_steps, steps_in, update_steps, version_put, version_written, versions, view_after, view_with_record, whole_steps}
-use Rattle.row_model.specs.LegalSteps.{BirthStep, DeleterStep, KeepsTo, MultixactStep, RemovalStep, Takes, Unmarked}
-use Rattle.row_model.specs.LegalRows.{AnewRule, BlocksRule, CheckpointRule, ImageRule, LegalLog, LockRule, OnlineLocks, are_apart, is_redo, is_redo_own, renews_first}
+use Rattle.row_model.specs.LegalSteps.{Takes, Unmarked}
+use Rattle.row_model.specs.LegalRows.{AnewRule, BlocksRule, ImageRule, LegalLog, OnlineLocks, are_apart, is_redo, is_redo_own, renews_first}
 use Rattle.row_model.specs.WorkedRows.{first_row, first_tuple, worked_first, worked_ids, worked_log, worked_table}
-use Rattle.std.specs.List.{list_all}
 use Rattle.row_model.specs.WorkedRows.{backup_end}
 use Rattle.std.specs.Prelude.{zero, suc, if◌then◌else◌, filter}
 use Rattle.row_model.specs.WorkedRows.{worked_start, insert_by_700, nothing_runs, online_checkpoint, commit_of_700}
@@ -33,17 +31,14 @@ use Rattle.heap_redo.specs.After.{applied}
 use Rattle.heap_page.specs.Item.{Item, is_normal, normal, numbered}
 use Rattle.heap_page.specs.Page.{are_apart as rooms_apart, is_header, is_laid, is_page, is_placed, item_of, items_of, lines_of}
 use Rattle.heap_page.specs.Put.{restored}
-use Rattle.row_model.specs.Versions.{RowStep}
 use Rattle.row_model.specs.Multixacts.{multixacts}
 use Rattle.row_model.specs.RowSteps.{items_in}
 use Rattle.row_model.specs.Rows.{is_row}
 use Rattle.row_model.specs.Shows.{AreMarksTrue, Shows, ShowsBlock, ShowsPlace}
-use Rattle.row_model.specs.LegalSteps.{EachStep}
 use Rattle.row_model.specs.LegalRows.{LegalAlong, LegalTable, TableRule}
 use Rattle.row_model.specs.Rows.{IsInPlaceOrder, IsRows}
-use Rattle.row_model.specs.Locks.{is_gone}
 use Rattle.worked_logs.proofs.SecondIds.{live_701, live_702, live_703, second_legal}
-use Rattle.row_model.proofs.WorkedLog.{all_true, answered_view, no_locks}
+use Rattle.row_model.proofs.WorkedLog.{all_true, answered_view, no_locks, plain_rule}
 use Rattle.pg_types.specs.Locators.{same_locator}
 
 abbrev before_it : List Rec → List Version
@@ -55,32 +50,6 @@ IsBlockRule older rec block =
     same_locator worked_table block.locator ≡ true
     → ImageRule second_origin older (before_it (rec ∷ older)) block.block (applied block.image)
     × AnewRule (before_it older) block
-
-no_steps :
-    (Rule : List Version → RowStep → Type 0) (older : List Rec) (rec : Rec) → rec.blocks ≡ []
-    → KeepsTo Rule second_origin worked_table older rec
-unfolding steps_in
-no_steps Rule older rec none =
-    subst (λ (blocks : List RecBlock).
-    EachStep Rule (before_it older) (steps_in rec worked_table (block_count second_origin worked_table older) (before_it older) blocks))
-    (sym none) tt
-
-plain :
-    (older : List Rec) (rec : Rec) → rec.blocks ≡ [] → CheckpointRule second_origin worked_table older (kind_of rec.head rec.kind)
-    → TableRule second_origin worked_table older rec
-plain older rec none checkpoint =
-    record {
-      births = no_steps (BirthStep second_origin worked_table older) older rec none;
-      deleters = no_steps (DeleterStep second_origin older) older rec none;
-      removals = no_steps (RemovalStep second_origin older 0) older rec none;
-      cut = tt;
-      blocks =
-          subst (BlocksRule second_origin worked_table older (before_it older) (before_it (rec ∷ older))) (sym none)
-          (All-nil (IsBlockRule older rec));
-      locks = no_locks second_origin worked_table older rec;
-      checkpoint = checkpoint;
-      multixacts = no_steps (MultixactStep older) older rec none;
-    }
 
 -- the record of one block
 one_block :
@@ -110,7 +79,7 @@ first_rule =
           one_block worked_start insert_by_700
           (record { id = 0; locator = worked_table; block = 0; will_init = true; image = None; tuples = first_tuple ∷ [] })
           (λ e. (tt, λ anew line. refl));
-      locks = no_locks second_origin worked_table worked_start insert_by_700;
+      locks = no_locks second_origin worked_table worked_start insert_by_700 refl refl refl;
       checkpoint = tt;
       multixacts = (tt, tt);
     }
@@ -185,7 +154,7 @@ delete_rule =
       blocks =
           one_block second_checkpoint delete_by_701 deleted_block
           (λ e. (shows_image (before_it (delete_by_701 ∷ second_checkpoint)) (items_in page_image) deleted_versions image_items, λ anew. absurd (false≢true anew)));
-      locks = no_locks second_origin worked_table second_checkpoint delete_by_701;
+      locks = no_locks second_origin worked_table second_checkpoint delete_by_701 refl refl refl;
       checkpoint = tt;
       multixacts = (tt, tt);
     }
@@ -206,7 +175,7 @@ rule_702 =
       removals = (tt, tt);
       cut = tt;
       blocks = one_block second_aborted insert_by_702 (block_one true) (λ e. (tt, λ anew line. refl));
-      locks = no_locks second_origin worked_table second_aborted insert_by_702;
+      locks = no_locks second_origin worked_table second_aborted insert_by_702 refl refl refl;
       checkpoint = tt;
       multixacts = (tt, tt);
     }
@@ -224,7 +193,7 @@ rule_703 =
       cut = tt;
       blocks =
           one_block (insert_by_702 ∷ second_aborted) insert_by_703 (block_one false) (λ e. (tt, λ anew. absurd (false≢true anew)));
-      locks = no_locks second_origin worked_table (insert_by_702 ∷ second_aborted) insert_by_703;
+      locks = no_locks second_origin worked_table (insert_by_702 ∷ second_aborted) insert_by_703 refl refl refl;
       checkpoint = tt;
       multixacts = (tt, tt);
     }
@@ -239,26 +208,26 @@ second_locks = record { running = λ e. cc; rewritten = λ x held live. absurd (
 
 second_along : LegalAlong second_origin worked_table second_log
 second_along = (
-  plain (insert_by_703 ∷ insert_by_702 ∷ second_aborted) commit_of_702 refl tt,
+  plain_rule second_origin worked_table (insert_by_703 ∷ insert_by_702 ∷ second_aborted) commit_of_702 refl refl refl refl tt,
   (
     rule_703,
     (
       rule_702,
       (
-        plain (delete_by_701 ∷ second_checkpoint) abort_of_701 refl tt,
+        plain_rule second_origin worked_table (delete_by_701 ∷ second_checkpoint) abort_of_701 refl refl refl refl tt,
         (
           delete_rule,
           (
-            plain (running_701 ∷ worked_first) checkpoint_701 refl second_locks,
+            plain_rule second_origin worked_table (running_701 ∷ worked_first) checkpoint_701 refl refl refl refl second_locks,
             (
-              plain worked_first running_701 refl tt,
+              plain_rule second_origin worked_table worked_first running_701 refl refl refl refl tt,
               (
-                plain (insert_by_700 ∷ worked_start) commit_of_700 refl tt,
+                plain_rule second_origin worked_table (insert_by_700 ∷ worked_start) commit_of_700 refl refl refl refl tt,
                 (
                   first_rule,
                   (
-                    plain (online_checkpoint ∷ nothing_runs ∷ []) backup_end refl tt,
-                    (plain (nothing_runs ∷ []) online_checkpoint refl first_locks, (plain [] nothing_runs refl tt, tt)),
+                    plain_rule second_origin worked_table (online_checkpoint ∷ nothing_runs ∷ []) backup_end refl refl refl refl tt,
+                    (plain_rule second_origin worked_table (nothing_runs ∷ []) online_checkpoint refl refl refl refl first_locks, (plain_rule second_origin worked_table [] nothing_runs refl refl refl refl tt, tt)),
                   ),
                 ),
               ),
@@ -286,7 +255,7 @@ second_renews redo h =
     ]
 
 redone_ok : is_ok (view_after second_origin (worked_table ∷ []) second_log) ≡ true
-unfolding view_after view_with_record redone redone_at redone_block after after_change changed_page changed put_listed put tuple_of head_bytes view_with with_seen grown put_answer set_head_answer change_head update update_within update_old put_version joined is_tuple is_tuple_head with_item number_at head_of marked_mask marked_mask2 replaced deleted locked is_lock_only items_of lines_of item_of restored is_page is_laid is_header is_placed rooms_apart
+unfolding view_after view_with_record redone_record redone redone_at redone_block after after_change changed_page changed put_listed put tuple_of head_bytes view_with with_seen grown put_answer set_head_answer change_head update update_within update_old put_version joined is_tuple is_tuple_head with_item number_at head_of marked_mask marked_mask2 replaced deleted locked is_lock_only items_of lines_of item_of restored is_page is_laid is_header is_placed rooms_apart
 redone_ok = refl
 
 all_versions : before_it second_log ≡ row_of 2 703 191 ∷ row_of 1 702 190 ∷ kept_row ∷ []

@@ -4,3 +4,4 @@ pub mod ArchiveLog
 pub mod BrokenLogs
 pub mod Clauses
 pub mod SecondLog
+pub mod RemovalLog

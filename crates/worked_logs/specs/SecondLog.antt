@@ -28,7 +28,7 @@ second_ids =
     record { at = record { is_committed = λ (x : ℕ). false; is_aborted = λ (x : ℕ). false }; top = second_top }
 
 abbrev pub second_origin : LogOrigin
-second_origin = record { transactions = second_ids; tables = λ (table : Locator). empty_table }
+second_origin = record { transactions = second_ids; tables = λ (table : Locator). empty_table 16385 }
 
 -- nothing runs, and 701 is the next id
 abbrev pub running_701 : Rec
@@ -68,7 +68,7 @@ abbrev pub delete_by_701 : Rec
 delete_by_701 = worked_record 0x2000228 0x20002A8 701 10 0x10 (Delete (record { 0 = 701 }) 1 0x10 0) (deleted_block ∷ [])
 
 abbrev pub abort_of_701 : Rec
-abort_of_701 = worked_record 0x20002A8 0x20002D0 701 1 0x20 (Ended (pos 0) 0 []) []
+abort_of_701 = worked_record 0x20002A8 0x20002D0 701 1 0x20 (Ended (pos 0) 0 [] []) []
 
 -- block 1 of the table with a tuple
 abbrev pub block_one : Bool → RecBlock
@@ -83,7 +83,7 @@ insert_by_703 = worked_record 0x2000320 0x2000370 703 10 0x00 (Insert 2 0) (bloc
 
 -- with its subtransaction (XACT_XINFO_HAS_SUBXACTS)
 abbrev pub commit_of_702 : Rec
-commit_of_702 = worked_record 0x2000370 0x20003A8 702 1 0x80 (Ended (pos 0) 2 (record { 0 = 703 } ∷ [])) []
+commit_of_702 = worked_record 0x2000370 0x20003A8 702 1 0x80 (Ended (pos 0) 2 (record { 0 = 703 } ∷ []) []) []
 
 abbrev pub second_checkpoint : List Rec
 second_checkpoint = checkpoint_701 ∷ running_701 ∷ worked_first

@@ -5,6 +5,7 @@ ghost use Rattle.worked_logs.specs.ArchiveLog.{ArchiveIsLegal};
 ghost use Rattle.worked_logs.specs.BrokenLogs.{EachBreaks};
 ghost use Rattle.worked_logs.specs.CheckpointRules.{CheckpointRulesBreak};
 ghost use Rattle.worked_logs.specs.EndRules.{EndRulesBreak};
+ghost use Rattle.worked_logs.specs.RemovalLog.{IsRemovalLog};
 ghost use Rattle.worked_logs.specs.SecondLog.{IsSecondLog};
 ghost use Rattle.worked_logs.specs.Clauses.{LegalKeeps, KeepingIsLegal};
 
@@ -35,6 +36,14 @@ pub fn archive_is_legal()
 /// A log with an image after a checkpoint, a delete that aborts, a subtransaction and a second block is legal.
 pub fn second_log()
     ensures { IsSecondLog }
+{
+    row_model::worked_rows();
+}
+
+/// A log with a prune, a freeze, an insertion that fails and is taken away, and a truncation under a lock is legal: so the
+/// rules on removals, cuts and locks can be met. After it the table has the row that stood.
+pub fn removal_log()
+    ensures { IsRemovalLog }
 {
     row_model::worked_rows();
 }

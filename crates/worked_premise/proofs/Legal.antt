@@ -1,6 +1,7 @@
 -- What a node answers over the example's files is answered by the log alone.
 use Rattle.std.proofs.Common.{lit<}
 use Rattle.std.specs.Prelude.{codes}
+use Rattle.transaction_model.specs.TransactionLaws.{OneXmin}
 use Rattle.row_model.specs.Rows.{OneRows}
 use Rattle.session_model.specs.Laws.{NodeOneScan, OneScan, Simulates}
 use Rattle.session_model.proofs.Follows.{sessions_follow}
@@ -32,14 +33,14 @@ module _ (worked : IsWorkedArchive) (described : SchemaIsRead) (legal : FilesAre
   stand : Represents world origin.redo.0 (start tables) (life_begins origin.redo)
   stand = begins_so tables origin (told_by files).byte top
 
-  pub scan_is_answered : OneRows → NodeOneScan → ScanIsAnswered
-  scan_is_answered one_rows one_scan =
+  pub scan_is_answered : OneXmin → OneRows → NodeOneScan → ScanIsAnswered
+  scan_is_answered one_xmin one_rows one_scan =
       let follows = scans_follow (Represents world origin.redo.0) node_step legal_step simulated (start tables) (life_begins origin.redo) stand in
       record {
         starts = scan_starts;
         node = scans_so node_step (start tables) (one_scan (told_by files).byte) (is_scan worked);
         legal =
-            scans_so legal_step (life_begins origin.redo) (scans_once legal_step (standby_once one_rows world))
+            scans_so legal_step (life_begins origin.redo) (scans_once legal_step (standby_once world one_rows one_xmin))
             (follows.whole (codes "t") scan_text 0 (is_scan worked));
       }
 

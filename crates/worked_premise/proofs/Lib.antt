@@ -1,5 +1,6 @@
 mod Bytes
 mod Fronts
+mod Least
 mod Legal
 mod Node
 mod Redone

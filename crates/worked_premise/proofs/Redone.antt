@@ -4,7 +4,7 @@ use Rattle.wal_record.specs.declared.types.PrevRule.{PrevRule}
 use Rattle.wal_reader.specs.Told.{Told}
 use Rattle.wal_bodies.specs.Ends.{end_of}
 use Rattle.wal_bodies.specs.declared.types.Rec.{Rec}
-use Rattle.heap_redo.specs.Redone.{redone}
+use Rattle.heap_redo.specs.Redone.{redone_record}
 use Rattle.heap_redo.specs.declared.fault.RedoFault.{RedoFault}
 use Rattle.table_schema.specs.Description.{Description, locators}
 use Rattle.standby_core.specs.Standby.{Standby, at_origin, described_in, told_to}
@@ -20,12 +20,12 @@ module _ (tables : Description) (files : List ℕ → Option (List ℕ)) where
   abbrev pub node_after : List Rec → Standby
   node_after [] = start tables
   node_after (rec ∷ older) =
-      applied rec (redone rec (locators (node_after older).tables) rec.blocks (node_after older).blocks).0 (node_after older)
+      applied rec (redone_record rec (locators (node_after older).tables) (node_after older).blocks).0 (node_after older)
 
   abbrev pub AreRedone : List Rec → Type 0
   AreRedone [] = Unit {0}
   AreRedone (rec ∷ older) =
-      ((redone rec (locators (node_after older).tables) rec.blocks (node_after older).blocks).1 ≡ Ok tt) × AreRedone older
+      ((redone_record rec (locators (node_after older).tables) (node_after older).blocks).1 ≡ Ok tt) × AreRedone older
 
   tables_are : (log : List Rec) → (node_after log).tables ≡ tables
   unfolding at_origin
@@ -66,10 +66,10 @@ module _ (tables : Description) (files : List ℕ → Option (List ℕ)) where
       subst (λ (r : Result Rec Stop). ReplaysOne r (node_after log) reply now) (sym (found_is log ∙ e)) is
 
   redone_so :
-      (rec : Rec) (s : Standby) → (redone rec (locators s.tables) rec.blocks s.blocks).1 ≡ Ok tt
-      → ReplaysOne (Ok rec) s (Applied rec.end.0) (applied rec (redone rec (locators s.tables) rec.blocks s.blocks).0 s)
+      (rec : Rec) (s : Standby) → (redone_record rec (locators s.tables) s.blocks).1 ≡ Ok tt
+      → ReplaysOne (Ok rec) s (Applied rec.end.0) (applied rec (redone_record rec (locators s.tables) s.blocks).0 s)
   redone_so rec s e =
-      let blocks = (redone rec (locators s.tables) rec.blocks s.blocks).0 in
+      let blocks = (redone_record rec (locators s.tables) s.blocks).0 in
       subst (λ (o : Result (Unit {0}) RedoFault). ReplaysBlocks rec blocks o s (Applied rec.end.0) (applied rec blocks s)) (sym e) (refl, refl)
 
   pub applies :

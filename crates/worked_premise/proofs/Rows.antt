@@ -22,6 +22,7 @@ use Rattle.legal_session.specs.AbstractStandby.{GivesRows, log_origin}
 use Rattle.worked_archive.specs.WorkedArchive.{IsWorkedArchive, log}
 use Rattle.worked_premise.specs.WorkedSchema.{tables}
 use Rattle.worked_premise.specs.Premise.{AreRows, FilesTellRows, inserted, page, scan, world}
+use Rattle.worked_premise.proofs.Least.{least}
 use Rattle.worked_premise.proofs.Told.{is_log}
 
 versions_are : versions (log_origin world) (file_of tables 0) log ≡ inserted ∷ []
@@ -74,6 +75,7 @@ files_tell_rows worked one =
       is_log = is_log worked;
       are_rows = are_rows;
       only_rows = only_rows one;
+      least = least;
       gives = gives;
       only_gives = only_gives one;
     }

@@ -1,7 +1,7 @@
 -- The example's description and archive as a witness of the premise of what is answered over a legal log, and that answer:
 -- from the bytes of two files to the text of a scan and of a session.
 -- Sources: xlogreader.c (XLogReadRecord), heapam.c (heap_insert, heapgettup), heaptuple.c (heap_deform_tuple).
-use Rattle.std.specs.Prelude.{◌≡◌, ℕ, pos, Bool, false, List, [], ◌∷◌, ◌++◌, codes}
+use Rattle.std.specs.Prelude.{◌≡◌, ℕ, pos, Bool, false, List, [], ◌∷◌, ◌++◌, None, codes}
 use Rattle.heap_tuple.specs.declared.cell.Cell.{Cell}
 use Rattle.heap_tuple.specs.declared.cell.Cell.TheVariants.{Int as IntCell, Bytes as BytesCell}
 use Rattle.wal_reader.specs.declared.types.EndWhy.TheVariants.{Zero}
@@ -13,6 +13,8 @@ use Rattle.row_model.specs.Multixacts.{multixacts}
 use Rattle.row_model.specs.Origins.{committed_in}
 use Rattle.row_model.specs.Rows.{IsRows}
 use Rattle.row_model.specs.RowSteps.{versions}
+use Rattle.transaction_model.specs.Transactions.{IsXmin}
+use Rattle.xact_redo.specs.TransactionsOf.{transactions_of}
 use Rattle.standby_core.specs.Standby.{Standby, described_in}
 use Rattle.standby_model.specs.Archived.{told_by}
 use Rattle.standby_model.specs.Log.{IsLog, Ended}
@@ -52,20 +54,22 @@ abbrev pub AreRows : List Version → Type 0
 AreRows rows =
     IsRows (multixacts log) (committed_in (log_origin world) log) (versions (log_origin world) (file_of tables 0) log) rows
 
--- a scan of t that is opened at the end of the log
+-- a scan of t that is opened at the end of the log, where 701 is the least live id
 abbrev pub scan : AbstractScan
-scan = record { id = 1; table = 0; opened = log; given = 0 }
+scan = record { id = 1; table = 0; opened = log; xmin = 701; given = 0; cause = None }
 
 -- what it is given first: that row
 abbrev pub page : BlockRows
 page = record { rows = row ∷ []; end = Whole }
 
 -- The log that the files tell is the worked one, up to the zeros behind the commit. At its end that version is the row of
--- t, and there is no other; and a scan is given its values, with no block behind it, and nothing else.
+-- t, and there is no other; 701 is the least live id; and a scan is given its values, with no block behind it, and nothing
+-- else.
 pub record FilesTellRows : Type 0 where
   pub is_log : IsLog (told_by files) (described_in tables) origin.redo.0 log (Ended Zero)
   pub are_rows : AreRows (inserted ∷ [])
   pub only_rows : (rows : List Version) → AreRows rows → rows ≡ inserted ∷ []
+  pub least : IsXmin (log_origin world).transactions.at scan.xmin (transactions_of scan.opened)
   pub gives : GivesRows world scan page false
   pub only_gives : (other : BlockRows) (more : Bool) → GivesRows world scan other more → (other ≡ page) × (more ≡ false)
 

@@ -32,6 +32,7 @@ pub fn scan_is_answered()
     ensures { ScanIsAnswered }
 {
     worked_archive::worked_archive();
+    transaction_model::transactions::one_xmin();
     row_model::one_rows();
     schema_is_read();
     files_are_legal();

@@ -60,12 +60,12 @@ outcome_of head = if is_commit head then Committed else Aborted
 
 -- the statuses after a record: those that it ends have ended so (xact_redo_commit, xact_redo_abort)
 abbrev pub statuses_after : RecordHead → RecKind → (ℕ → Status) → ℕ → Status
-statuses_after head (Ended time xinfo xids) before = status_after before (head.xid ∷ xids) (outcome_of head)
+statuses_after head (Ended time xinfo xids files) before = status_after before (head.xid ∷ xids) (outcome_of head)
 statuses_after head _ before = before
 
 -- the positions at which a status on each page was set last, after a record that ends here
 abbrev pub positions_after : RecordHead → RecKind → Lsn → (ℕ → ℕ) → ℕ → ℕ
-positions_after head (Ended time xinfo xids) end before = changed_after before (head.xid ∷ xids) end.0
+positions_after head (Ended time xinfo xids files) end before = changed_after before (head.xid ∷ xids) end.0
 positions_after head _ end before = before
 
 -- the state after a record: known ids and parents by the rules of running transactions, beside the commit log
@@ -93,7 +93,7 @@ greatest_ended statuses xids = greatest (filter (shows_ended statuses) xids)
 
 -- the ids whose status a record sets
 abbrev pub ended_ids : RecordHead → RecKind → List Xid
-ended_ids head (Ended time xinfo xids) = head.xid ∷ xids
+ended_ids head (Ended time xinfo xids files) = head.xid ∷ xids
 ended_ids head _ = []
 
 -- the ids that a record lists as running

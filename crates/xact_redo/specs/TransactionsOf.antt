@@ -5,12 +5,9 @@ use Rattle.wal_record.specs.declared.types.RecordHead.{RecordHead}
 use Rattle.wal_bodies.specs.declared.types.Rec.{Rec}
 use Rattle.wal_bodies.specs.declared.types.RecKind.{RecKind}
 use Rattle.wal_bodies.specs.declared.types.RecKind.TheVariants as rec
+pub use Rattle.wal_bodies.specs.Typed.{is_commit}
 use Rattle.known_assigned.specs.Ids.{numbers}
 use Rattle.transaction_model.specs.Transactions.{Kind, Commit, Abort, Running, Shutdown, Online, Other, TransactionRecord}
-
--- of a record that ends a transaction: it is a commit, and not an abort (XLOG_XACT_OPMASK, xact.h)
-abbrev pub is_commit : RecordHead → Bool
-is_commit head = bit_and head.info 0x70 == 0x00
 
 -- of a checkpoint: it was made at shutdown, and not online (XLOG_CHECKPOINT_SHUTDOWN, pg_control.h)
 abbrev pub at_shutdown : RecordHead → Bool
@@ -19,7 +16,7 @@ at_shutdown head = bit_and head.info 0xF0 == 0x00
 -- a commit or an abort, the running transactions, a checkpoint at shutdown or online; all other records say nothing
 -- but the id of their header
 abbrev pub kind_of : RecordHead → RecKind → Kind
-kind_of head (rec.Ended time xinfo xids) = if is_commit head then Commit (numbers xids) else Abort (numbers xids)
+kind_of head (rec.Ended time xinfo xids files) = if is_commit head then Commit (numbers xids) else Abort (numbers xids)
 kind_of head (rec.Running tops subs overflow next oldest latest xids) =
     Running (record { overflow = overflow; tops = tops; next = next; oldest = oldest; latest = latest }) (numbers xids)
 kind_of head (rec.Checkpoint redo timeline previous writes next multi member oldest active) =

@@ -1,9 +1,10 @@
-use Rattle.std.proofs.Common.{arith, ap, sym, refl, ◌∙◌, ◌≡◌, ◌++◌, ◌∷◌, inl, inr, subst, append_assoc, Ok, Err, Result, IsOk, length}
+use Rattle.std.proofs.Common.{arith, ap, sym, refl, ◌∙◌, ◌≡◌, ◌++◌, ◌∷◌, inl, inr, subst, append_assoc, append-nil, Ok, Err, Result, IsOk, length}
 use Rattle.std.proofs.lemmas.Grind.{common_steps}
 use Rattle.page_store.specs.Content.{content}
 use Rattle.heap_redo.specs.declared.fault.RedoFault.{RedoFault}
 use Rattle.page_store.specs.Seen.{View, view_of}
-use Rattle.heap_redo.specs.Redone.{Outcome, redone_at, Stands}
+use Rattle.heap_redo.specs.Redone.{Outcome, redone, redone_at, Stands}
+use Rattle.heap_redo.proofs.Cuts.{uncut-redone}
 use Rattle.heap_redo.proofs.Sequence.{redone-none, redone-more, redone-stops, redone-front, next-there}
 use Rattle.heap_redo.proofs.replay.redo_blocks.Goals as goal
 
@@ -47,6 +48,7 @@ returns-in_err-redo_block-clause-answer c =
         memory.0,
         record {
           done = length passed;
+          uncut = c.requires.uncut;
           stands = redone-front rec known passed (block ∷ c.next.new.self) rec.blocks old now whole c.loop-block.invariant.done
               ∙ ap (λ view. let o : Outcome = (view, Ok tt) in o) (sym same);
           next = block;
@@ -54,6 +56,16 @@ returns-in_err-redo_block-clause-answer c =
           not_refused = subst (λ (view : View). IsOk (redone_at rec known block view)) (sym same) memory.1;
         },
       )
-      | inr e ↦ inr (redone-stops rec known passed c.next.new.self rec.blocks block old now fault whole c.loop-block.invariant.done e
+      | inr e ↦ inr (uncut-redone rec known old c.requires.uncut
+          ∙ redone-stops rec known passed c.next.new.self rec.blocks block old now fault whole c.loop-block.invariant.done e
           ∙ ap (λ view. let o : Outcome = (view, Err fault) in o) (sym same))
     ])
+
+pub returns-clause-answer : goal.returns-clause-answer
+returns-clause-answer c =
+    let rec = c.args.rec.now in
+    let known = c.args.known.now in
+    let old : View = view_of (content c.args.pool.now) in
+    let all : c.loop-block.yielded ≡ rec.blocks =
+    sym (ap (λ xs. c.loop-block.yielded ++ xs) c.in-None.ensures.steps.0 ∙ append-nil c.loop-block.yielded) ∙ c.loop-block.invariant.whole in
+    inr (uncut-redone rec known old c.requires.uncut ∙ ap (λ xs. redone rec known xs old) (sym all) ∙ c.loop-block.invariant.done)

@@ -1,4 +1,4 @@
-use Rattle.std.proofs.Common.{◌≡◌, ℕ, refl, ap, ◌∙◌, arith}
+use Rattle.std.proofs.Common.{ℕ, refl, ap, ◌∙◌, arith}
 use Rattle.wal_archive.specs.ArchiveLog.{archived_bytes}
 use Rattle.standby_core.specs.View.{standby}
 use Rattle.standby_session.proofs.Scanning.{replay_ends, replay_more, replay_none, replay_refused}
@@ -20,7 +20,7 @@ records-preserved g c =
     let new = standby c.replay_one.new.self in
     let answer = rw c.in-Ok-Applied.field-0-is at is.answer in
     record {
-      told = replay_more _ _ _ (standby c.records.node) new _ _ inv.same_log inv.told answer;
+      told = replay_more _ _ _ (standby c.records.node) new _ _ _ inv.same_log inv.told answer;
       same_log = ap (λ (size : ℕ). archived_bytes (g.A.Archive.files c.replay_one.new.archive) size) is.segsize ∙ is.told ∙ inv.same_log;
       faults = is.uncounted (λ e. cc) ∙ inv.faults;
     }

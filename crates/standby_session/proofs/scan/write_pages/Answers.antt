@@ -1,4 +1,4 @@
-use Rattle.std.proofs.Common.{◌≡◌, ℕ, Option, refl, ◌∙◌, arith}
+use Rattle.std.proofs.Common.{refl, ◌∙◌, arith}
 use Rattle.standby_core.specs.View.{standby}
 use Rattle.standby_session.proofs.Paging.{pages_cut, pages_end, pages_more, pages_none}
 use Rattle.standby_session.proofs.scan.write_pages.Goals as goal

@@ -19,13 +19,18 @@ returns-in_err-redo_typed-in-Ok-clause-redone c =
     let start = c.args.start in
     let end = c.args.end in
     let old = standby node in
-    let new : Standby = record old { blocks = view_of (content c.redo_typed.new.pool); transactions = transactions c.redo_typed.new.state } in
+    let new : Standby = record old {
+      blocks = view_of (content c.redo_typed.new.pool);
+      transactions = transactions c.redo_typed.new.state;
+      locks = c.redo_typed.new.locks.locks;
+    } in
     let why = c.in_err-redo_typed-in-Ok.field-0.0 in
     let answer : c.from_residual.result ≡ Err why = grind (arith, common_steps) in
     let form = c.in-Ok.ensures.form
     ∙ ap (λ database. typed found start end database c.locators-known.result.now) c.database.ensures
     ∙ ap (λ known. typed found start end node.tables.database known) c.locators-known.ensures.files in
-    let same = ap (λ state. let n : Standby = record old { blocks = view_of (content c.redo_typed.new.pool); transactions = state } in n) c.in_err-redo_typed-in-Ok.ensures.stays in
+    let same = ap (λ state. let n : Standby = record old { blocks = view_of (content c.redo_typed.new.pool); transactions = state; locks = c.redo_typed.new.locks.locks } in n) c.in_err-redo_typed-in-Ok.ensures.stays
+    ∙ ap (λ locks. let n : Standby = record old { blocks = view_of (content c.redo_typed.new.pool); locks = locks } in n) c.in_err-redo_typed-in-Ok.ensures.held in
     subst (λ r. GivenRedone node.reader start end r old new) (sym answer)
     (record {
       found = found;

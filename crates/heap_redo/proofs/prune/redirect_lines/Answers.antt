@@ -1,0 +1,24 @@
+use Rattle.std.proofs.Common.{arith, ◌∙◌, sym}
+use Rattle.std.proofs.lemmas.Grind.{common_steps}
+use Rattle.heap_page.specs.Page.{items_of}
+use Rattle.heap_redo.specs.Refused.{refusal_of}
+use Rattle.heap_redo.proofs.Pruned.{redirects-next, redirects-refused, redirects-none}
+use Rattle.heap_redo.proofs.prune.redirect_lines.Goals as goal
+
+pub returns-in_err-redirect_line : goal.returns-in_err-redirect_line
+returns-in_err-redirect_line c =
+    let refused = redirects-refused c.loop-line.line-iterator c.next.new.self c.in-Some.line (items_of c.loop-line.page)
+    (refusal_of c.in_err-redirect_line.field-0.0) c.in-Some.ensures.steps c.in_err-redirect_line.ensures in
+    let whole = refused ∙ c.loop-line.invariant in
+    grind (arith, common_steps, whole)
+
+pub loop-line-preserved : goal.loop-line-preserved
+loop-line-preserved c =
+    redirects-next c.loop-line.line-iterator c.next.new.self c.in-Some.line (items_of c.loop-line.page) (items_of c.redirect_line.new.page)
+    c.in-Some.ensures.steps c.in_ok-redirect_line.ensures
+    ∙ c.loop-line.invariant
+
+pub returns : goal.returns
+returns c =
+    sym (redirects-none c.loop-line.line-iterator (items_of c.loop-line.page) c.in-None.ensures.steps.0)
+    ∙ c.loop-line.invariant
