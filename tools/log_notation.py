@@ -10,7 +10,9 @@ Between semicolons stand items `POSITION RECORD`; the position may be left out, 
     multi-insert X block B (VALUES) (VALUES) ..
     delete X B,L [image]       lock-row X B,L by XMAX bits N [image]
     prune X block B [redirect L-L ..] [dead L ..] [unused L ..]
+    vacuum block B unused L .. [image]                dead lines become unused
     freeze X block B plan INFOMASK lines L ..
+    visible X block B flags N [image]                 the map's block is that of B, the heap's block 1
     members X multi N offset N of X STATUS, ..        a multixact and its members
     commit X [subs X ..] [drops TABLE]                abort X [subs X ..]
     assign X subs X ..         lock X TABLE           truncate X TABLE to B
@@ -20,6 +22,8 @@ Between semicolons stand items `POSITION RECORD`; the position may be left out, 
     linked L RECORD            a record that names L as the record before
     for A..B ITEM              the item with each number from A to B in the place of `#`; `#%25+1` is reckoned of it,
                                from left to right
+    rounds A..B ITEM & ITEM .. the items, one after another, with each number in the place of `@`, which is reckoned
+                               in the same way
     poke L HEX                 turns bytes that were written into others
     prelude                    running, checkpoint and backup-end as a log begins behind a backup
 
@@ -35,6 +39,10 @@ from record_notation import bytes_of, record_of
 from wal_bytes import Block, Body, Mismatch, Wal, lsn, pos
 
 
+# how many heap pages one page of the visibility map has two bits for (visibilitymap.c)
+VISIBLE_PER_PAGE = (8192 - 24) * 4
+
+
 def numbers(words):
     """`701 703`, `701..764`: a list of numbers."""
     out = []
@@ -44,28 +52,32 @@ def numbers(words):
     return out
 
 
-STEPS = {"+": operator.add, "-": operator.sub, "/": operator.floordiv, "%": operator.mod}
+STEPS = {"+": operator.add, "-": operator.sub, "*": operator.mul, "/": operator.floordiv, "%": operator.mod}
 
 
-def counted(text, number):
-    """The text with the number in the place of each `#`, or what is reckoned of it, as `#%25+1`."""
+def counted(text, number, place="#"):
+    """The text with the number in each such place, or what is reckoned of it, as `#%25+1`."""
     def reckoned(match):
         out = number
-        for sign, by in re.findall(r"([-+/%])(\d+)", match[1]):
+        for sign, by in re.findall(r"([-+*/%])(\d+)", match[1]):
             out = STEPS[sign](out, int(by))
         return str(out)
-    return re.sub(r"#((?:[-+/%]\d+)*)", reckoned, text)
+    return re.sub(place + r"((?:[-+*/%]\d+)*)", reckoned, text)
 
 
 def repeated(items):
-    """The items, of which `for A..B ITEM` stands for one with each number in the place of `#`."""
+    """The items, of which `for A..B ITEM` stands for one with each number in the place of `#`, and
+    `rounds A..B ITEM & ITEM ..` for all of them with each number in the place of `@`."""
     for item in items:
-        match = re.match(r"for (\d+)\.\.(\d+) (.*)$", item)
+        match = re.match(r"(for|rounds) (\d+)\.\.(\d+) (.*)$", item)
         if match is None:
             yield item
             continue
-        for number in range(int(match[1]), int(match[2]) + 1):
-            yield counted(match[3], number)
+        for number in range(int(match[2]), int(match[3]) + 1):
+            if match[1] == "for":
+                yield counted(match[4], number)
+            else:
+                yield from repeated(counted(match[4], number, "@").split(" & "))
 
 
 class Log:
@@ -266,6 +278,23 @@ class Log:
         ref = self.block(table, block, data, False, image)
         return self.add(Body(9, 0x10, 0, main, [ref]), [page])
 
+    def vacuum(self, block, unused, image=False, table=None):
+        table = table or self.table
+        page = self.page(table, block)
+        for line in unused:
+            page.lines[line - 1] = None
+        while page.lines and page.lines[-1] is None:
+            page.lines.pop()
+        ref = self.block(table, block, struct.pack("<%dH" % len(unused), *unused), False, image)
+        return self.add(Body(9, 0x20, 0, struct.pack("<H", len(unused)), [ref]), [page])
+
+    def visible(self, horizon, block, flags, image=False, table=None):
+        """The mark of the heap's page itself is left out of its image."""
+        table = table or self.table
+        refs = [Block(table.rel, block // VISIBLE_PER_PAGE, fork=2), self.block(table, block, b"", False, image)]
+        main = struct.pack("<IB", horizon & 0xFFFFFFFF, flags)
+        return self.add(Body(9, 0x40, 0, main, refs), [self.page(table, block)] if image else [])
+
     def freeze(self, horizon, block, plans, table=None):
         """Plans are (infomask, lines); xmax 0, infomask2 the number of columns."""
         table = table or self.table
@@ -382,6 +411,12 @@ class Log:
         redirects = [tuple(map(int, w.split("-"))) for w in words.list if re.match(r"\d+-\d+$", w)]
         return self.prune(int(words.list[0]), words.number("block"), redirects,
                           words.numbers("dead"), words.numbers("unused"))[0]
+
+    def read_vacuum(self, words):
+        return self.vacuum(words.number("block"), words.numbers("unused"), words.has("image"))[0]
+
+    def read_visible(self, words):
+        return self.visible(int(words.list[0]), words.number("block"), words.number("flags"), words.has("image"))[0]
 
     def read_freeze(self, words):
         plans = re.findall(r"plan ([0-9A-F]{4}) lines ([0-9 ]+)", words.text)

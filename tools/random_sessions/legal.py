@@ -1,0 +1,259 @@
+"""Whether a log is one that a primary could write: the clauses of docs/formats/legal-log.md, record by record. It stands
+on the definitions, not on what the log maker knew as it wrote.
+
+`fault(definitions)` answers None, or (number of the record, clause) of the first record that breaks a clause."""
+import struct
+
+from .definitions import ALWAYS, NOBODY, changes, deleter_planned, deleter_shown, drops, is_anew, is_frozen, is_normal, \
+    masks, steps_of, version_at, with_step, xmin
+from .pages import NoRedo, redo
+
+
+class Broken(Exception):
+    """A clause is broken."""
+
+
+def ask(holds, clause):
+    if not holds:
+        raise Broken(clause)
+
+
+def named_by(record):
+    """The ids that a record names."""
+    return [record.xid] + (record.subs if record.kind in ("commit", "abort") else [])
+
+
+class Legality:
+    def __init__(self, definitions):
+        self.d, self.log = definitions, definitions.log
+        self.records = self.log.records
+        self.known = {table.rel for table in self.log.tables}
+        self.seen_below, self.greatest_next, self.last_redo = 0, 0, 0
+        self.begins = {record.start: n for n, record in enumerate(self.records)}
+
+    def fault(self):
+        pages = {}
+        for n, record in enumerate(self.records):
+            try:
+                self.record(n, record)
+                redo(record, self.known, pages)
+            except Broken as broken:
+                return n, str(broken)
+            except NoRedo as refused:
+                return n, "redo: %s" % refused
+        return self.renewal()
+
+    def record(self, n, record):
+        places = [(block.rel, block.number) for block in record.blocks]
+        ask(len(places) == len(set(places)), "blocks apart")
+        self.transactions(n, record)
+        for table in self.log.tables:
+            self.table(n, record, table)
+
+    # Transactions (LegalTransactions). `n` records are older, and n + 1 stand with this one.
+
+    def transactions(self, n, record):
+        if record.kind in ("commit", "abort"):
+            self.end(n, record)
+        self.seen_below = max(self.seen_below, max(named_by(record)) + 1)
+        if record.kind == "running":
+            self.greatest_next = max(self.greatest_next, record.next)
+            self.running(n + 1, record)
+        elif record.kind == "checkpoint":
+            self.checkpoint(n, record)
+
+    def end(self, n, record):
+        xid, subs, top = record.xid, record.subs, self.log.top(record.xid)
+        ask(record.kind == "abort" or top == xid, "transactions: a commit is a top transaction's")
+        ask(all(self.d.live(it, n) for it in [xid] + subs), "transactions: ended ones are live")
+        ask(all(self.log.top(it) == top and top < it for it in subs), "transactions: listed ones are its subtransactions")
+        if top == xid:
+            ask(all(it in subs for it in self.log.tops if self.log.top(it) == xid and it != xid and self.d.live(it, n)),
+                "transactions: all its live subtransactions end")
+
+    def is_next(self, next, n, seen_below, greatest_next):
+        ask(next >= 3 and seen_below <= next and greatest_next <= next, "transactions: the next id was not assigned")
+        ended = [xid for xid, number in self.d.finished_from.items() if number < n]
+        ask(max(ended + [0]) < next and self.d.low[n] <= next, "transactions: no id from the next on has ended")
+
+    def subs_end(self, low, n):
+        ask(all(self.d.ended(it, n) for it in self.log.tops if self.log.top(it) < low),
+            "transactions: a subtransaction ends with its top transaction")
+
+    def running(self, n, record):
+        listed = set(record.tops + record.subs)
+        self.is_next(record.next, n, self.seen_below, self.greatest_next)
+        spanned = range(max(3, record.oldest), record.next)
+        for xid in spanned:
+            if self.d.live(xid, n):
+                is_top = self.log.top(xid) == xid
+                ask(xid in listed or record.overflow and not is_top, "transactions: a running record lists live ones")
+                ask(not (is_top and xid in listed and not record.tops), "transactions: no top transaction is listed")
+        ask(all(xid in spanned for xid in listed), "transactions: listed ones are spanned")
+        ask(all(not self.d.ended(xid, n) or self.d.finished(xid, n) for xid in listed),
+            "transactions: listed ones that ended committed or aborted")
+        self.subs_end(record.oldest, n)
+        ask(self.d.ended(record.latest, n), "transactions: the latest completed id has ended")
+        if not (record.overflow and record.tops):
+            ask(all(xid in listed or not self.d.ended(xid, n) for xid in range(record.latest + 1, record.next)),
+                "transactions: ended ones behind the latest completed are listed")
+
+    def checkpoint(self, n, record):
+        if record.shutdown:
+            ask(record.redo == record.start, "shutdown checkpoints")
+            self.is_next(record.next, n + 1, self.seen_below, self.greatest_next)
+            self.subs_end(record.next, n + 1)
+            self.last_redo = record.start
+            return
+        before = self.begins.get(record.redo, len(self.records))
+        ask(before <= n and self.last_redo <= record.redo, "transactions: the redo of a checkpoint")
+        self.is_next(record.next, before, *self.seen(before))
+        self.last_redo = record.redo
+
+    def seen(self, n):
+        """(one past the greatest id that n records name, the greatest next id of their running records)"""
+        named = [max(named_by(record)) + 1 for record in self.records[:n]]
+        nexts = [record.next for record in self.records[:n] if record.kind == "running"]
+        return max(named, default=0), max(nexts, default=0)
+
+    # Tables (TableRule).
+
+    def table(self, n, record, table):
+        versions, count = self.d.told(table.rel, n)
+        self.locks(n, record, table)
+        if record.kind == "checkpoint" and not record.shutdown:
+            self.locks_written(n, record, table)
+        if record.kind == "truncate" and record.rel == table.rel:
+            ask(all(v.block < record.blocks_left for v in self.d.versions(table.rel, n + 1) if v.holds), "cut")
+        blocks = [block for block in record.blocks if block.rel == table.rel]
+        if not blocks:
+            return
+        now = versions
+        for step in steps_of(record, table.rel, count, versions):
+            self.step(n, record, table, now, step)
+            now = with_step(now, step)
+        for block in blocks:
+            if block.applied() is not None:
+                self.image(n, now, block)
+            if block.init:
+                ask(not any(v.holds and v.block == block.number for v in versions), "images and new pages")
+
+    def step(self, n, record, table, versions, step):
+        if step[0] == "born":
+            return self.birth(n, table, versions, *step[1:])
+        v = version_at(versions, *step[1:3])
+        if v is None:
+            return None
+        if step[0] == "deleter":
+            return self.deleter(n, v, step[3])
+        if step[0] == "undone":
+            return ask(v.inserter not in (NOBODY, ALWAYS) and self.d.live(v.inserter, n), "deleters")
+        if step[0] == "removed":
+            return ask(self.may_be_removed(n, v, getattr(record, "horizon", 0)), "removals")
+        self.deleter(n, v, deleter_planned(step[3]))
+        return self.plan(n, v, record.horizon, step[3])
+
+    def birth(self, n, table, versions, block, line, it, whole):
+        ask(version_at(versions, block, line) is None and self.d.live(xmin(it), n), "births")
+        ask(masks(it)[1] & 0x0300 == 0 or is_frozen(it) and self.d.is_under_lock(table, xmin(it), n), "births")
+        ask(masks(it)[1] & 0x0400 == 0 and (whole or self.is_spent(n, deleter_shown(it))), "births")
+
+    def is_spent(self, n, deleter):
+        return deleter is None or self.d.failed(deleter, n)
+
+    def is_same_tree(self, x, y):
+        return self.log.top(x) == self.log.top(y)
+
+    def may_delete(self, n, inserter, xid):
+        if inserter in (NOBODY, ALWAYS):
+            return inserter == ALWAYS
+        return self.d.committed(inserter, n) or self.is_same_tree(inserter, xid)
+
+    def deleter(self, n, v, now):
+        stays = now == v.deleter
+        takes = now is not None and self.d.live(now, n) and self.is_spent(n, v.deleter)
+        takes = takes and self.may_delete(n, v.inserter, now)
+        fades = self.is_spent(n, v.deleter) and self.is_spent(n, now)
+        ask(stays or takes or fades, "deleters")
+
+    def may_be_removed(self, n, v, horizon):
+        if v.inserter == NOBODY or v.inserter != ALWAYS and self.d.failed(v.inserter, n):
+            return True
+        if v.deleter is None or not self.d.committed(v.deleter, n):
+            return False
+        if v.inserter != ALWAYS and self.is_same_tree(v.inserter, v.deleter):
+            return True
+        return not self.d.counts(v.inserter, n) or self.d.covers(horizon, v.deleter)
+
+    def plan(self, n, v, horizon, plan):
+        head = struct.pack("<I", 0 if v.inserter == NOBODY else xmin(v.tuple))
+        it = head + struct.pack("<I", plan.xmax) + v.tuple[8:18] + struct.pack("<HH", plan.mask2, plan.mask) + v.tuple[22:]
+        frozen = plan.mask & 0x0300 == 0x0300
+        ask(self.shows(n, v._replace(deleter=deleter_planned(plan), frozen=frozen), it), "removals: a plan")
+        ask(frozen or not v.frozen, "removals: a frozen version stays so")
+        if frozen and not v.frozen:
+            ask(v.inserter != NOBODY and self.d.committed(v.inserter, n) and self.d.covers(horizon, v.inserter),
+                "removals: a freeze's horizon")
+
+    # Images (Shows).
+
+    def image(self, n, versions, block):
+        items = block.applied()
+        lines = {v.line for v in versions if v.holds and v.block == block.number}
+        ask(all(line in lines for line in range(1, len(items) + 1) if is_normal(items, line)), "images: no version")
+        for line in lines:
+            ask(is_normal(items, line), "images: a version is left out")
+            ask(self.shows(n, version_at(versions, block.number, line), items[line - 1]), "images: what a tuple shows")
+
+    def shows(self, n, v, it):
+        mask2, mask = masks(it)
+        written2, written = masks(v.tuple)
+        same = mask2 & 0x07FF == written2 & 0x07FF and mask & 1 == written & 1 and it[22:] == v.tuple[22:]
+        inserter = {NOBODY: xmin(it) == 0, ALWAYS: is_frozen(it)}.get(v.inserter, xmin(it) == v.inserter)
+        deleter = v.inserter == NOBODY or deleter_shown(it) == v.deleter
+        return same and inserter and deleter and is_frozen(it) == v.frozen and self.marks_true(n, v, mask)
+
+    def marks_true(self, n, v, mask):
+        if v.inserter not in (NOBODY, ALWAYS):
+            if mask & 0x0300 == 0x0100 and not self.d.committed(v.inserter, n):
+                return False
+            if mask & 0x0300 == 0x0200 and not self.d.failed(v.inserter, n):
+                return False
+        if v.deleter is None:
+            return True
+        return (mask & 0x0400 == 0 or self.d.committed(v.deleter, n)) and (mask & 0x0800 == 0 or self.d.failed(v.deleter, n))
+
+    def renewal(self):
+        """From each redo position on, the first record that changes a block restores it or makes it anew."""
+        redos = {0} | {record.redo for record in self.records if record.kind == "checkpoint"}
+        for redo_at in sorted(redos):
+            renewed = set()
+            for n in range(self.d.number_from(redo_at), len(self.records)):
+                for rel in self.known:
+                    for block in changes(self.records[n], rel):
+                        if (rel, block.number) not in renewed and not is_anew(block):
+                            return n, "renewal"
+                    renewed |= {(rel, block.number) for block in changes(self.records[n], rel)}
+        return None
+
+    # Locks.
+
+    def locks(self, n, record, table):
+        if drops(record, table.rel) or record.kind == "truncate" and record.rel == table.rel:
+            ask(self.d.is_under_lock(table, record.xid, n), "locks")
+        if changes(record, table.rel):
+            ask(self.d.gone(table.rel, n) is None, "locks: the table is gone")
+
+    def locks_written(self, n, record, table):
+        """Between a checkpoint's redo and its record stands a running record, and up to the last one each lock in force of
+        a live transaction is written again."""
+        since = self.d.number_from(record.redo)
+        up_to = max((k + 1 for k in range(n) if self.records[k].kind == "running"), default=0)
+        ask(since < up_to, "locks of a checkpoint: no running record")
+        again = {xid for xid, _ in self.d.locks(table, up_to, since)}
+        held = {xid for xid, _ in self.d.locks(table, up_to) if self.d.live(xid, up_to)}
+        ask(all(xid in again or self.log.top(xid) in again for xid in held), "locks of a checkpoint")
+
+
+def fault(definitions):
+    return Legality(definitions).fault()
