@@ -4,6 +4,7 @@ import shutil
 import subprocess
 import sys
 import tempfile
+import threading
 import time
 
 from real_log import about, for_server
@@ -52,10 +53,35 @@ def run(words, folder, out=None):
         return used.ru_utime + used.ru_stime, passed, int(memory.read())
 
 
+def processor_time(pid):
+    """The seconds of processor time of a process so far, to the nanosecond; it waits for input."""
+    time.sleep(0.02)
+    with open("/proc/%d/schedstat" % pid) as file:
+        return int(file.read().split()[0]) / 1e9
+
+
+def read_to(out, end):
+    """Reads and throws away what a process writes, up to these bytes."""
+    tail = b"\n"
+    while not tail.endswith(end):
+        read = os.read(out, 1 << 20)
+        if not read:
+            sys.exit("the session ended early")
+        tail = (tail + read)[-64:]
+
+
 def count_same(theirs, ours, name):
-    """The number of rows, where a scan has the server's rows in their order."""
+    """The number of rows, and of blocks, where a scan has the server's rows in their order."""
     # A line `more` comes between two blocks.
-    lines = (line for line in ours if line != b"more 1\n")
+    blocks = [1]
+
+    def without_more():
+        for line in ours:
+            if line == b"more 1\n":
+                blocks[0] += 1
+            else:
+                yield line
+    lines = without_more()
     head = next(lines)
     count = 0
     for line in theirs:
@@ -64,7 +90,7 @@ def count_same(theirs, ours, name):
         count += 1
     if not head.startswith(b"scan 1 at ") or list(lines) != [b"end 1\n"]:
         sys.exit("%s: the scan is not of as many rows" % name)
-    return count
+    return count, blocks[0]
 
 
 class Beside:
@@ -76,7 +102,7 @@ class Beside:
         self.wal = os.path.join(work, "wal")
         for_server(log, self.wal, self.about["release"], self.about["system"])
         self.replay, self.scan, self.best, self.default, self.copy = (Times() for _ in range(5))
-        self.rows = None
+        self.rows = self.blocks = None
 
     def cluster(self, data):
         """The base backup as a cluster of its own."""
@@ -119,9 +145,32 @@ class Beside:
             self.default.add(*server.redo_time())
 
     def ours(self):
-        """Our replay, which is a scan of a table without rows, and a scan of all rows."""
+        """Our replay, which is a scan of a table without rows; and scans of all rows in a session that has replayed."""
         self.replay.add(*run([self.standby, "scan", "u"], self.log))
-        self.scan.add(*run([self.standby, "scan", self.table], self.log))
+        self.scans(3)
+
+    def scans(self, count):
+        """So many scans, one after the other, each from its opening to its last block."""
+        child = subprocess.Popen([self.standby, "session"], cwd=self.log, stdin=subprocess.PIPE, stdout=subprocess.PIPE)
+        out = child.stdout.fileno()
+
+        def ask(lines):
+            child.stdin.write(lines)
+            child.stdin.flush()
+        ask(b"replay 4294967295\n")
+        read_to(out, b"\n")
+        for number in range(1, count + 1):
+            before, begun = processor_time(child.pid), time.monotonic()
+            pages = b"open %s\n" % self.table.encode() + b"next %d\n" % number * self.blocks
+            asking = threading.Thread(target=ask, args=(pages,))
+            asking.start()
+            read_to(out, b"\nend %d\n" % number)
+            passed = time.monotonic() - begun
+            asking.join()
+            self.scan.add(processor_time(child.pid) - before, passed)
+        child.stdin.close()
+        if child.wait() != 0:
+            sys.exit("the session ended with status %d" % child.returncode)
 
     def compare(self, server):
         """Whether the rows of the scan are those of the server, in the order of their places."""
@@ -130,10 +179,9 @@ class Beside:
         with open(ours, "wb") as out:
             run([self.standby, "scan", self.table], self.log, out)
         with open(theirs, "rb") as theirs, open(ours, "rb") as ours:
-            self.rows = count_same(theirs, ours, self.log)
+            self.rows, self.blocks = count_same(theirs, ours, self.log)
 
     def tell_scan(self):
-        """Rows a second of processor time, of a scan without its replay and of COPY."""
-        printing = self.scan.least() - self.replay.least()
-        scan, copy = self.rows / printing / 1e6, self.rows / self.copy.least() / 1e6
-        print("  scan without replay %.2f million rows/s, COPY TO STDOUT %.2f million rows/s: %.2f" % (scan, copy, scan / copy))
+        """Rows a second of processor time, of a scan and of COPY, by the least of their times."""
+        scan, copy = self.rows / self.scan.least() / 1e6, self.rows / self.copy.least() / 1e6
+        print("  scan %.2f million rows/s, COPY TO STDOUT %.2f million rows/s: %.2f" % (scan, copy, scan / copy))

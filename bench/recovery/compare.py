@@ -39,7 +39,8 @@ def tell(one, name):
     print("  replay, ours               %s" % one.replay.tell())
     print("  recovery, best settings    %s" % one.best.tell())
     print("  recovery, default settings %s" % one.default.tell())
-    print("  scan                       %s" % one.scan.tell())
+    print("  a scan, in a session       %s" % one.scan.tell())
+    print("  COPY TO STDOUT             %s" % one.copy.tell())
     each = [ours / theirs for ours, theirs in zip(one.replay.cpu, one.best.cpu)]
     print("  processor time, ours to best settings %.2f (middle of the rounds %.2f), to default settings %.2f" % (
         one.replay.least() / one.best.least(), statistics.median(each), one.replay.least() / one.default.least()))

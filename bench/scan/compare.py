@@ -26,8 +26,8 @@ def measure(standby, log, work, rounds):
             one.ours()
             one.copy.add(*server.copy_time("bench", "r"))
     print("%d rows of (int4, int8, text of 80 bytes), which are the same; load %.1f" % (one.rows, os.getloadavg()[0]))
-    print("  scan           %s" % one.scan.tell())
-    print("  its replay     %s" % one.replay.tell())
+    print("  a scan         %s" % one.scan.tell())
+    print("  the replay     %s" % one.replay.tell())
     print("  COPY TO STDOUT %s" % one.copy.tell())
     one.tell_scan()
 

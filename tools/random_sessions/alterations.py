@@ -1,7 +1,7 @@
 """Logs of which one number was changed by chance. Where such a log is still one that a primary could write, as legal.py
 says, a standby has to answer by the definitions there too; so the log maker's own habits do not bound what is tried."""
 from .pages import header, with_header
-from .primary import DATABASE
+from .transactions import DATABASE
 
 MARKS = [0x0100, 0x0200, 0x0300, 0x0400, 0x0800, 0x0C00, 0x0080, 0x0040, 0x0010]
 
@@ -14,6 +14,9 @@ SPECIAL = {
     "pruned": lambda record, plain: record.kind == "prune" and bool(plain),
     "plan": lambda record, plain: record.kind == "freeze" and bool(plain),
     "listed": lambda record, plain: bool(getattr(record, "subs", []) + getattr(record, "tops", [])),
+    "assigned": lambda record, plain: record.kind == "assignment",
+    "overflow": lambda record, plain: record.kind == "running",
+    "counts": lambda record, plain: record.kind == "running" and bool(record.tops + record.subs),
 }
 
 
@@ -89,6 +92,24 @@ class Alteration:
     def other_listed(self, record):
         listed = self.draw.choice([it for it in (record.subs, getattr(record, "tops", [])) if it])
         listed[self.draw.randrange(len(listed))] = self.xid()
+
+    def other_top(self, record):
+        record.top = self.xid()
+
+    def other_assigned(self, record):
+        """Another subtransaction, mostly of the same top transaction."""
+        tops = self.log.tops
+        others = [xid for xid in tops if tops[xid] == record.top or self.draw.random() < 0.05]
+        record.subs[self.draw.randrange(len(record.subs))] = self.draw.choice(others)
+
+    def other_overflow(self, record):
+        record.overflow = 0 if record.overflow else self.draw.choice([1, 2, 255])
+
+    def other_counts(self, record):
+        """Another number of the listed ids is counted as top transactions."""
+        listed = record.tops + record.subs
+        at = self.draw.randrange(len(listed) + 1)
+        record.tops, record.subs = listed[:at], listed[at:]
 
     def other_entries(self, record):
         at = self.draw.randrange(len(record.entries))

@@ -5,20 +5,24 @@ from pathlib import Path
 from wal_bytes import PAGE, Block as BlockBytes, Body, Wal, encode
 
 from . import records
-from .primary import DATABASE, SEGMENT, START
+from .primary import SEGMENT, START
+from .transactions import DATABASE
 from .values import description
 
-# records that a standby refuses, by why
-REFUSED = {
-    "unsupported prepared": Body(1, 0x10, 0, bytes(8)),
-    "unsupported minimal": Body(0, 0x60, 0, bytes(24)),
-    "unsupported page writes": Body(0, 0x80, 0, b"\0"),
-    "unsupported database": Body(4, 0x20, 0, struct.pack("<I", DATABASE)),
-    "unsupported epoch": Body(11, 0x00, 4294967295, b"x"),
-    "length": Body(8, 0x10, 0, bytes(23)),
-    "compressed": Body(0, 0xB0, 0, b"", [BlockBytes((1663, DATABASE, 20001), 0, image=b"compressed", hole_at=24,
-                                                     image_info=7, hole_len=100)]),
-}
+# records that a standby refuses, each with why
+REFUSED = [
+    ("unsupported prepared", Body(1, 0x10, 0, bytes(8))),
+    ("unsupported minimal", Body(0, 0x60, 0, bytes(24))),
+    ("unsupported page writes", Body(0, 0x80, 0, b"\0")),
+    ("unsupported database", Body(4, 0x20, 0, struct.pack("<I", DATABASE))),
+    ("unsupported epoch", Body(11, 0x00, 4294967295, b"x")),
+    ("unsupported epoch", Body(1, 0x50, 0, struct.pack("<IiII", 700, 2, 701, 4294967295))),
+    ("length", Body(8, 0x10, 0, bytes(23))),
+    ("length", Body(1, 0x50, 0, struct.pack("<IiI", 700, 2, 701))),
+    ("length", Body(1, 0x50, 0, struct.pack("<Ii", 700, -1))),
+    ("compressed", Body(0, 0xB0, 0, b"", [BlockBytes((1663, DATABASE, 20001), 0, image=b"compressed", hole_at=24,
+                                                     image_info=7, hole_len=100)])),
+]
 BROKEN = ("crc", "prev", "short", "manager", "layout")
 
 
@@ -48,7 +52,7 @@ class Ending:
 
     def __init__(self, draw):
         self.kind = draw.choice(["nothing"] * 6 + ["broken"] * 2 + ["refused"])
-        self.why = draw.choice(BROKEN) if self.kind == "broken" else draw.choice(list(REFUSED))
+        self.why, self.body = (draw.choice(BROKEN), None) if self.kind == "broken" else draw.choice(REFUSED)
         self.files = draw.choice(["whole"] + ["page"] * 6 + ["cut"] * 3)
 
     def put(self, wal):
@@ -58,7 +62,7 @@ class Ending:
             self.length = wal.put(broken(wal, self.why))[1]
             return "end: " + self.why
         if self.kind == "refused":
-            self.length = wal.put(encode(REFUSED[self.why], wal.prev))[1]
+            self.length = wal.put(encode(self.body, wal.prev))[1]
             return "refused: " + self.why
         if wal.at % SEGMENT == 0 or self.files == "cut" or self.files == "page" and wal.at % PAGE == 0:
             return "end: missing"

@@ -208,12 +208,27 @@ def drops(record, rel):
     return record.kind == "commit" and rel in record.files
 
 
+# Running transactions.
+
+def overflows(record):
+    """A running record leaves subtransactions out; one that counts no top-level id is whole."""
+    return bool(record.overflow and record.tops)
+
+
+def settles(record, first):
+    """All running transactions are known after a record: a shutdown checkpoint, or a running record that is whole or whose
+    oldest id has reached `first`, the next id of the first running record before it (None: there is none)."""
+    if record.kind == "running":
+        return not overflows(record) or first is not None and first <= record.oldest
+    return record.kind == "checkpoint" and record.shutdown
+
+
 class Definitions:
     """The definitions over one log. What is asked of each front is kept as it is first reckoned."""
 
     def __init__(self, log):
         self.log, self.records = log, log.records
-        self.committed_from, self.finished_from, self.low = {}, {}, [0]
+        self.committed_from, self.finished_from, self.assigned_from, self.low = {}, {}, {}, [0]
         for n, record in enumerate(self.records):
             self.tell(n, record)
         self.rows_told = {table.rel: [([], 0)] for table in log.tables}
@@ -226,6 +241,9 @@ class Definitions:
                 self.finished_from.setdefault(xid, n)
                 if record.kind == "commit":
                     self.committed_from.setdefault(xid, n)
+        elif record.kind == "assignment":
+            for xid in record.subs:
+                self.assigned_from.setdefault(xid, n)
         elif record.kind == "running":
             low = max(low, record.oldest)
         elif record.kind == "checkpoint" and record.shutdown:
@@ -262,6 +280,21 @@ class Definitions:
 
     def covers(self, horizon, xid):
         return self.least_horizon(xid) <= horizon
+
+    def state(self, n):
+        """What a standby knows of the running transactions after n records: all, or what the first running record told, or
+        nothing."""
+        first = None
+        for record in self.records[:n]:
+            if settles(record, first):
+                return "ready"
+            if record.kind == "running" and first is None:
+                first = record.next
+        return "initialized" if first is None else "pending"
+
+    def are_known_by_parent(self, n):
+        """A live subtransaction was assigned by then."""
+        return any(number < n and self.live(xid, n) for xid, number in self.assigned_from.items())
 
     # Rows.
 

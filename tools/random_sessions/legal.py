@@ -1,26 +1,18 @@
 """Whether a log is one that a primary could write: the clauses of docs/formats/legal-log.md, record by record. It stands
 on the definitions, not on what the log maker knew as it wrote.
 
-`fault(definitions)` answers None, or (number of the record, clause) of the first record that breaks a clause."""
+`fault(definitions)` answers None, or (number of the record, clause) of the first record that breaks a clause, and
+`faults(definitions)` all that are broken."""
 import struct
 
 from .definitions import ALWAYS, NOBODY, changes, deleter_planned, deleter_shown, drops, is_anew, is_frozen, is_normal, \
-    masks, steps_of, version_at, with_step, xmin
+    masks, overflows, steps_of, version_at, with_step, xmin
 from .pages import NoRedo, redo
 
 
-class Broken(Exception):
-    """A clause is broken."""
-
-
-def ask(holds, clause):
-    if not holds:
-        raise Broken(clause)
-
-
 def named_by(record):
-    """The ids that a record names."""
-    return [record.xid] + (record.subs if record.kind in ("commit", "abort") else [])
+    """The ids that a record names. An assignment's top transaction is none of them."""
+    return [record.xid] + (record.subs if record.kind in ("commit", "abort", "assignment") else [])
 
 
 class Legality:
@@ -30,31 +22,50 @@ class Legality:
         self.known = {table.rel for table in self.log.tables}
         self.seen_below, self.greatest_next, self.last_redo = 0, 0, 0
         self.begins = {record.start: n for n, record in enumerate(self.records)}
+        self.at, self.broken = 0, []
 
-    def fault(self):
+    def ask(self, holds, clause):
+        """A clause is asked of the record at hand."""
+        if not holds:
+            self.broken.append((self.at, clause))
+
+    def judged(self, to_the_end):
+        """The clauses that are broken, each as (number of the record, clause): those of the first record that breaks
+        some, or all."""
         pages = {}
-        for n, record in enumerate(self.records):
+        self.origin()
+        for self.at, record in enumerate(self.records):
+            self.record(self.at, record)
+            if self.broken and not to_the_end:
+                return self.broken
             try:
-                self.record(n, record)
                 redo(record, self.known, pages)
-            except Broken as broken:
-                return n, str(broken)
             except NoRedo as refused:
-                return n, "redo: %s" % refused
-        return self.renewal()
+                self.ask(False, "redo: %s" % refused)
+        if not self.broken or to_the_end:
+            self.renewal()
+        return self.broken
 
     def record(self, n, record):
         places = [(block.rel, block.number) for block in record.blocks]
-        ask(len(places) == len(set(places)), "blocks apart")
+        self.ask(len(places) == len(set(places)), "blocks apart")
         self.transactions(n, record)
         for table in self.log.tables:
             self.table(n, record, table)
 
     # Transactions (LegalTransactions). `n` records are older, and n + 1 stand with this one.
 
+    def origin(self):
+        """Where the log begins no transaction has a status, so each normal id is live."""
+        top = self.log.top
+        self.ask(all(top(top(xid)) == top(xid) <= xid and (xid < 3 or top(xid) >= 3) for xid in self.log.tops),
+                 "transactions: a subtransaction's top transaction is a lower one")
+
     def transactions(self, n, record):
         if record.kind in ("commit", "abort"):
             self.end(n, record)
+        elif record.kind == "assignment":
+            self.assignment(record)
         self.seen_below = max(self.seen_below, max(named_by(record)) + 1)
         if record.kind == "running":
             self.greatest_next = max(self.greatest_next, record.next)
@@ -62,51 +73,62 @@ class Legality:
         elif record.kind == "checkpoint":
             self.checkpoint(n, record)
 
+    def are_subs_of(self, top, subs):
+        return all(self.log.top(it) == top and top < it for it in subs)
+
     def end(self, n, record):
         xid, subs, top = record.xid, record.subs, self.log.top(record.xid)
-        ask(record.kind == "abort" or top == xid, "transactions: a commit is a top transaction's")
-        ask(all(self.d.live(it, n) for it in [xid] + subs), "transactions: ended ones are live")
-        ask(all(self.log.top(it) == top and top < it for it in subs), "transactions: listed ones are its subtransactions")
+        self.ask(record.kind == "abort" or top == xid, "transactions: a commit is a top transaction's")
+        self.ask(all(self.d.live(it, n) for it in [xid] + subs), "transactions: ended ones are live")
+        self.ask(self.are_subs_of(top, subs), "transactions: listed ones are its subtransactions")
         if top == xid:
-            ask(all(it in subs for it in self.log.tops if self.log.top(it) == xid and it != xid and self.d.live(it, n)),
-                "transactions: all its live subtransactions end")
+            self.ask(all(it in subs for it in self.log.tops if self.log.top(it) == xid != it and self.d.live(it, n)),
+                     "transactions: all its live subtransactions end")
+
+    def assignment(self, record):
+        self.ask(record.subs, "transactions: an assignment lists some")
+        self.ask(self.are_subs_of(record.top, record.subs), "transactions: assigned ones are its subtransactions")
 
     def is_next(self, next, n, seen_below, greatest_next):
-        ask(next >= 3 and seen_below <= next and greatest_next <= next, "transactions: the next id was not assigned")
+        self.ask(next >= 3, "transactions: the next id is normal")
+        self.ask(seen_below <= next, "transactions: the next id is above those seen")
+        self.ask(greatest_next <= next, "transactions: the next id is not below an earlier one")
         ended = [xid for xid, number in self.d.finished_from.items() if number < n]
-        ask(max(ended + [0]) < next and self.d.low[n] <= next, "transactions: no id from the next on has ended")
+        self.ask(max(ended + [0]) < next and self.d.low[n] <= next, "transactions: no id from the next on has ended")
 
     def subs_end(self, low, n):
-        ask(all(self.d.ended(it, n) for it in self.log.tops if self.log.top(it) < low),
-            "transactions: a subtransaction ends with its top transaction")
+        self.ask(all(self.d.ended(it, n) for it in self.log.tops if self.log.top(it) < low),
+                 "transactions: a subtransaction ends with its top transaction")
 
     def running(self, n, record):
         listed = set(record.tops + record.subs)
         self.is_next(record.next, n, self.seen_below, self.greatest_next)
-        spanned = range(max(3, record.oldest), record.next)
-        for xid in spanned:
-            if self.d.live(xid, n):
-                is_top = self.log.top(xid) == xid
-                ask(xid in listed or record.overflow and not is_top, "transactions: a running record lists live ones")
-                ask(not (is_top and xid in listed and not record.tops), "transactions: no top transaction is listed")
-        ask(all(xid in spanned for xid in listed), "transactions: listed ones are spanned")
-        ask(all(not self.d.ended(xid, n) or self.d.finished(xid, n) for xid in listed),
-            "transactions: listed ones that ended committed or aborted")
+        live = [xid for xid in range(max(3, record.oldest), record.next) if self.d.live(xid, n)]
+        tops = [xid for xid in live if self.log.top(xid) == xid]
+        self.ask(all(xid in listed for xid in tops), "transactions: a running record lists the live top transactions")
+        self.ask(record.overflow or all(xid in listed for xid in live),
+                 "transactions: a running record lists the live subtransactions")
+        self.ask(record.tops or all(self.log.top(xid) < xid for xid in listed if self.d.live(xid, n)),
+                 "transactions: no top transaction is listed where none is counted")
+        self.ask(all(record.oldest <= xid < record.next for xid in listed), "transactions: listed ones are spanned")
+        self.ask(all(xid >= 3 for xid in listed), "transactions: listed ones are normal")
+        self.ask(all(not self.d.ended(xid, n) or self.d.finished(xid, n) for xid in listed),
+                 "transactions: listed ones that ended committed or aborted")
         self.subs_end(record.oldest, n)
-        ask(self.d.ended(record.latest, n), "transactions: the latest completed id has ended")
-        if not (record.overflow and record.tops):
-            ask(all(xid in listed or not self.d.ended(xid, n) for xid in range(record.latest + 1, record.next)),
-                "transactions: ended ones behind the latest completed are listed")
+        self.ask(self.d.ended(record.latest, n), "transactions: the latest completed id has ended")
+        self.ask(overflows(record) or all(xid in listed or not self.d.ended(xid, n)
+                                          for xid in range(record.latest + 1, record.next)),
+                 "transactions: ended ones above the latest completed are listed")
 
     def checkpoint(self, n, record):
         if record.shutdown:
-            ask(record.redo == record.start, "shutdown checkpoints")
+            self.ask(record.redo == record.start, "shutdown checkpoints")
             self.is_next(record.next, n + 1, self.seen_below, self.greatest_next)
             self.subs_end(record.next, n + 1)
             self.last_redo = record.start
             return
         before = self.begins.get(record.redo, len(self.records))
-        ask(before <= n and self.last_redo <= record.redo, "transactions: the redo of a checkpoint")
+        self.ask(before <= n and self.last_redo <= record.redo, "transactions: the redo of a checkpoint")
         self.is_next(record.next, before, *self.seen(before))
         self.last_redo = record.redo
 
@@ -124,7 +146,7 @@ class Legality:
         if record.kind == "checkpoint" and not record.shutdown:
             self.locks_written(n, record, table)
         if record.kind == "truncate" and record.rel == table.rel:
-            ask(all(v.block < record.blocks_left for v in self.d.versions(table.rel, n + 1) if v.holds), "cut")
+            self.ask(all(v.block < record.blocks_left for v in self.d.versions(table.rel, n + 1) if v.holds), "cut")
         blocks = [block for block in record.blocks if block.rel == table.rel]
         if not blocks:
             return
@@ -136,7 +158,7 @@ class Legality:
             if block.applied() is not None:
                 self.image(n, now, block)
             if block.init:
-                ask(not any(v.holds and v.block == block.number for v in versions), "images and new pages")
+                self.ask(not any(v.holds and v.block == block.number for v in versions), "images and new pages")
 
     def step(self, n, record, table, versions, step):
         if step[0] == "born":
@@ -147,16 +169,16 @@ class Legality:
         if step[0] == "deleter":
             return self.deleter(n, v, step[3])
         if step[0] == "undone":
-            return ask(v.inserter not in (NOBODY, ALWAYS) and self.d.live(v.inserter, n), "deleters")
+            return self.ask(v.inserter not in (NOBODY, ALWAYS) and self.d.live(v.inserter, n), "deleters")
         if step[0] == "removed":
-            return ask(self.may_be_removed(n, v, getattr(record, "horizon", 0)), "removals")
+            return self.ask(self.may_be_removed(n, v, getattr(record, "horizon", 0)), "removals")
         self.deleter(n, v, deleter_planned(step[3]))
         return self.plan(n, v, record.horizon, step[3])
 
     def birth(self, n, table, versions, block, line, it, whole):
-        ask(version_at(versions, block, line) is None and self.d.live(xmin(it), n), "births")
-        ask(masks(it)[1] & 0x0300 == 0 or is_frozen(it) and self.d.is_under_lock(table, xmin(it), n), "births")
-        ask(masks(it)[1] & 0x0400 == 0 and (whole or self.is_spent(n, deleter_shown(it))), "births")
+        self.ask(version_at(versions, block, line) is None and self.d.live(xmin(it), n), "births")
+        self.ask(masks(it)[1] & 0x0300 == 0 or is_frozen(it) and self.d.is_under_lock(table, xmin(it), n), "births")
+        self.ask(masks(it)[1] & 0x0400 == 0 and (whole or self.is_spent(n, deleter_shown(it))), "births")
 
     def is_spent(self, n, deleter):
         return deleter is None or self.d.failed(deleter, n)
@@ -174,7 +196,7 @@ class Legality:
         takes = now is not None and self.d.live(now, n) and self.is_spent(n, v.deleter)
         takes = takes and self.may_delete(n, v.inserter, now)
         fades = self.is_spent(n, v.deleter) and self.is_spent(n, now)
-        ask(stays or takes or fades, "deleters")
+        self.ask(stays or takes or fades, "deleters")
 
     def may_be_removed(self, n, v, horizon):
         if v.inserter == NOBODY or v.inserter != ALWAYS and self.d.failed(v.inserter, n):
@@ -189,21 +211,23 @@ class Legality:
         head = struct.pack("<I", 0 if v.inserter == NOBODY else xmin(v.tuple))
         it = head + struct.pack("<I", plan.xmax) + v.tuple[8:18] + struct.pack("<HH", plan.mask2, plan.mask) + v.tuple[22:]
         frozen = plan.mask & 0x0300 == 0x0300
-        ask(self.shows(n, v._replace(deleter=deleter_planned(plan), frozen=frozen), it), "removals: a plan")
-        ask(frozen or not v.frozen, "removals: a frozen version stays so")
+        self.ask(self.shows(n, v._replace(deleter=deleter_planned(plan), frozen=frozen), it), "removals: a plan")
+        self.ask(frozen or not v.frozen, "removals: a frozen version stays so")
         if frozen and not v.frozen:
-            ask(v.inserter != NOBODY and self.d.committed(v.inserter, n) and self.d.covers(horizon, v.inserter),
-                "removals: a freeze's horizon")
+            self.ask(v.inserter != NOBODY and self.d.committed(v.inserter, n) and self.d.covers(horizon, v.inserter),
+                     "removals: a freeze's horizon")
 
     # Images (Shows).
 
     def image(self, n, versions, block):
         items = block.applied()
         lines = {v.line for v in versions if v.holds and v.block == block.number}
-        ask(all(line in lines for line in range(1, len(items) + 1) if is_normal(items, line)), "images: no version")
+        self.ask(all(line in lines for line in range(1, len(items) + 1) if is_normal(items, line)), "images: no version")
         for line in lines:
-            ask(is_normal(items, line), "images: a version is left out")
-            ask(self.shows(n, version_at(versions, block.number, line), items[line - 1]), "images: what a tuple shows")
+            is_there = is_normal(items, line)
+            self.ask(is_there, "images: a version is left out")
+            self.ask(not is_there or self.shows(n, version_at(versions, block.number, line), items[line - 1]),
+                     "images: what a tuple shows")
 
     def shows(self, n, v, it):
         mask2, mask = masks(it)
@@ -228,32 +252,34 @@ class Legality:
         redos = {0} | {record.redo for record in self.records if record.kind == "checkpoint"}
         for redo_at in sorted(redos):
             renewed = set()
-            for n in range(self.d.number_from(redo_at), len(self.records)):
+            for self.at in range(self.d.number_from(redo_at), len(self.records)):
                 for rel in self.known:
-                    for block in changes(self.records[n], rel):
-                        if (rel, block.number) not in renewed and not is_anew(block):
-                            return n, "renewal"
-                    renewed |= {(rel, block.number) for block in changes(self.records[n], rel)}
-        return None
+                    changed = changes(self.records[self.at], rel)
+                    self.ask(all(is_anew(block) or (rel, block.number) in renewed for block in changed), "renewal")
+                    renewed |= {(rel, block.number) for block in changed}
 
     # Locks.
 
     def locks(self, n, record, table):
         if drops(record, table.rel) or record.kind == "truncate" and record.rel == table.rel:
-            ask(self.d.is_under_lock(table, record.xid, n), "locks")
+            self.ask(self.d.is_under_lock(table, record.xid, n), "locks")
         if changes(record, table.rel):
-            ask(self.d.gone(table.rel, n) is None, "locks: the table is gone")
+            self.ask(self.d.gone(table.rel, n) is None, "locks: the table is gone")
 
     def locks_written(self, n, record, table):
         """Between a checkpoint's redo and its record stands a running record, and up to the last one each lock in force of
         a live transaction is written again."""
         since = self.d.number_from(record.redo)
         up_to = max((k + 1 for k in range(n) if self.records[k].kind == "running"), default=0)
-        ask(since < up_to, "locks of a checkpoint: no running record")
+        self.ask(since < up_to, "locks of a checkpoint: no running record")
         again = {xid for xid, _ in self.d.locks(table, up_to, since)}
         held = {xid for xid, _ in self.d.locks(table, up_to) if self.d.live(xid, up_to)}
-        ask(all(xid in again or self.log.top(xid) in again for xid in held), "locks of a checkpoint")
+        self.ask(all(xid in again or self.log.top(xid) in again for xid in held), "locks of a checkpoint")
 
 
 def fault(definitions):
-    return Legality(definitions).fault()
+    return next(iter(Legality(definitions).judged(False)), None)
+
+
+def faults(definitions):
+    return Legality(definitions).judged(True)

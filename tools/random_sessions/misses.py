@@ -1,21 +1,12 @@
-"""Near misses: logs that differ from a legal one in one number, and that no primary could write.
+"""Near misses: logs that differ from a legal one in one thing, and that no primary could write (those on transactions are
+in transaction_misses.py).
 
 Of each, the check of legality has to say that it is none. Where a standby answers otherwise than the rows of the log are,
 the miss was one that matters to a scan; the sessions of a miss are drawn so that it may."""
+from . import transaction_misses
 from .definitions import ALWAYS, NOBODY, drops, version_at
 from .pages import header, with_header
-
-
-class Miss:
-    """What was missed, the log's records, and the session that looks at it."""
-
-    def __init__(self, what, records, number, lines):
-        self.what, self.records, self.number = what, records, number
-        self.source = b"".join(line.encode() + b"\n" for line in lines)
-
-
-def reading(first, last):
-    return ["next %d" % id for _ in range(8) for id in range(first, last + 1)]
+from .transaction_misses import Miss, reading
 
 
 def horizon_misses(log):
@@ -113,7 +104,7 @@ def opened_at(table, fronts):
     return lines
 
 
-# Locks and running transactions that are left out.
+# Locks that are left out.
 
 def lock_miss(draw, log, _):
     """A truncation or a drop of a table that no record told a lock of."""
@@ -131,27 +122,10 @@ def lock_miss(draw, log, _):
     return Miss("lock", records, number, before + ["open " + table.name, "replay 1"] + reading(1, 1))
 
 
-def running_miss(draw, log, d):
-    """A running-transactions record, mostly the first, that lists one live transaction twice, and another one not."""
-    found = [number for number, record in enumerate(log.records) if record.kind == "running" and len(
-        [xid for xid in record.tops if d.live(xid, number + 1)]) > 1]
-    if not found:
-        return None
-    number = found[0] if draw.random() < 0.7 else draw.choice(found)
-    records = list(log.records)
-    records[number] = records[number].copied()
-    live = [xid for xid in records[number].tops if d.live(xid, number + 1)]
-    left_out = draw.choice([xid for xid in live if xid in d.committed_from] or live)
-    others = [xid for xid in records[number].tops if xid != left_out]
-    records[number].tops = others + [others[0]]
-    ends = d.finished_from.get(left_out, len(records))
-    lines = ["replay %d" % max(number + 1, ends)] + ["open " + table.name for table in log.tables] + ["replay 1"]
-    return Miss("running", records, number, lines + reading(1, 3))
-
-
-KINDS = (horizon_miss, mark_miss, lock_miss, running_miss)
+KINDS = (horizon_miss, mark_miss, lock_miss) + transaction_misses.KINDS
 
 
 def drawn(draw, log, d):
-    """The near misses of a log, at most one of each kind."""
-    return [miss for kind in KINDS for miss in [kind(draw, log, d)] if miss]
+    """Near misses of a log, at most one of each kind and at most four."""
+    found = [miss for kind in draw.sample(KINDS, len(KINDS)) for miss in [kind(draw, log, d)] if miss]
+    return found[:4]

@@ -9,16 +9,13 @@ from .changes import HeapChanges
 from .definitions import Definitions, Log, deleter_shown, lock_only, masks, xmin
 from .pages import NoRedo, changed, header, is_left, is_tuple, redo, with_header
 from .records import Block, Image, Record
+from .transactions import DATABASE, FOREIGN, Transactions
 
 SEGMENT = 16 << 20
 START = 2 * SEGMENT + 0x28
-DATABASE = 16384
-
-# files that are not described: of the database, of another one, and of those that all databases share
-FOREIGN = [(1663, DATABASE, 20001), (1664, DATABASE, 30011), (1663, 16999, 30011), (1664, 0, 1260), (1664, 0, 1262)]
 
 
-class Primary(HeapChanges):
+class Primary(HeapChanges, Transactions):
     def __init__(self, draw, tables):
         self.draw, self.tables = draw, tables
         self.wal = Wal(START, 2 * SEGMENT - 0x68, system=7, segsize=SEGMENT)
@@ -26,9 +23,9 @@ class Primary(HeapChanges):
         self.d = Definitions(self.log)
         self.by_rel = {table.rel: table for table in tables}
         self.pages, self.renewed, self.speculative = {}, set(), {}
-        self.next = draw.choice([3, 4, 700, 700, 700, draw.randrange(3, 5000), draw.randrange(3, 1 << 20)])
-        self.assigned, self.redo, self.redo_next = [], None, 0
+        self.redo, self.redo_next = None, 0
         self.chance_of_image = draw.choice([0, 0.05, 0.3])
+        self.begin_transactions()
 
     @property
     def n(self):
@@ -86,86 +83,6 @@ class Primary(HeapChanges):
             head[2] = self.draw.randrange(5)
         head[7] = mask
         return with_header(it, head)
-
-    # Transactions.
-
-    def live(self):
-        return [xid for xid in self.assigned if self.d.live(xid, self.n)]
-
-    def live_tops(self):
-        return [xid for xid in self.live() if self.log.top(xid) == xid]
-
-    def live_subs(self, top):
-        return [xid for xid in self.live() if self.log.top(xid) == top and xid != top]
-
-    def some_xid(self):
-        """A live transaction or subtransaction, which may begin right now; or None where no id is left."""
-        live = self.live()
-        if self.next > 4294967290:
-            return self.draw.choice(live) if live else None
-        if live and self.chance(0.65 if len(live) < 7 else 1):
-            return self.draw.choice(live)
-        xid, tops = self.next, self.live_tops()
-        self.next += 1
-        if tops and self.chance(0.35):
-            self.log.tops[xid] = self.draw.choice(tops)
-        self.assigned.append(xid)
-        return xid
-
-    def end(self, xid=None, commits=None):
-        """Commits or aborts a top transaction, or aborts a subtransaction."""
-        live = self.live()
-        if not live:
-            return False
-        xid = xid or self.draw.choice(live)
-        if commits is None and self.log.top(xid) != xid and self.chance(0.5):
-            others = [it for it in self.live_subs(self.log.top(xid)) if it > xid and self.chance(0.3)]
-            return self.write(Record("abort", xid, subs=others, files=[], inside=False))
-        xid = self.log.top(xid)
-        commits = self.chance(0.75) if commits is None else commits
-        files = self.dropped(xid) if commits else self.foreign_files(0.05)
-        kind = "commit" if commits else "abort"
-        return self.write(Record(kind, xid, subs=self.live_subs(xid), files=files, inside=self.chance(0.2)))
-
-    def foreign_files(self, p):
-        return [self.draw.choice(FOREIGN)] if self.chance(p) else []
-
-    def dropped(self, xid):
-        """Files that a commit drops: described tables only under their locks."""
-        files = self.foreign_files(0.05)
-        for table in self.tables:
-            if self.d.is_under_lock(table, xid, self.n) and self.chance(0.2):
-                files.append(table.rel)
-        return files
-
-    def running(self):
-        """The running transactions; rarely some that just ended are still listed, or some are given up."""
-        live = self.live()
-        if live and self.chance(0.04):
-            live = self.without_given_up(live)
-        oldest = min(live, default=self.next)
-        extra = []
-        if self.chance(0.15):
-            extra = [xid for xid in self.assigned if xid >= oldest and self.d.finished(xid, self.n) and self.chance(0.5)]
-        ended = [xid for xid in self.assigned if xid >= oldest and self.d.ended(xid, self.n) and xid not in extra]
-        latest = max(ended + [oldest - 1])
-        listed = live + extra
-        self.draw.shuffle(listed)
-        tops = [xid for xid in listed if self.log.top(xid) == xid]
-        overflow = not tops and self.chance(0.3)
-        subs = [xid for xid in listed if self.log.top(xid) != xid]
-        if not tops and [xid for xid in live if self.log.top(xid) == xid]:
-            return False
-        return self.write(Record("running", 0, tops=tops, subs=subs, overflow=int(overflow), next=self.next, oldest=oldest,
-                                 latest=latest))
-
-    def without_given_up(self, live):
-        """The live ones without the oldest, which a running record gives up with all of its subtransactions."""
-        for oldest in self.draw.sample(live, len(live)):
-            rest = [xid for xid in live if xid > oldest]
-            if all(self.log.top(xid) > oldest for xid in rest):
-                return rest
-        return live
 
     # Locks and checkpoints.
 
@@ -266,6 +183,9 @@ class Primary(HeapChanges):
         kind = self.draw.random()
         for _ in range(self.draw.choice([0, 0, 1, 3, 5])):
             self.some_xid()
+        for _ in range(self.draw.choice([0, 0, 1, 2])):
+            self.nest()
+        self.choose_lasting()
         for _ in range(self.draw.randrange(3, 25) if kind < 0.2 else 0):
             self.draw.choice([self.insert, self.insert, self.update, self.delete, self.end, self.lock_row])()
         if kind < 0.85:
@@ -280,6 +200,8 @@ class Primary(HeapChanges):
         """Writes about so many records."""
         self.begin()
         weights = {name: base * self.draw.choice([0.2, 1, 1, 3]) for name, base in WEIGHTS.items()}
+        if self.chance(0.3):
+            weights.update({name: 0 for name in CANCELLING})
         names, tries = list(weights), 0
         while self.n < count and tries < 4 * count:
             getattr(self, self.draw.choices(names, weights.values())[0])()
@@ -296,5 +218,8 @@ class Primary(HeapChanges):
 WEIGHTS = {
     "insert": 14, "multi_insert": 4, "delete": 10, "update": 12, "lock_row": 4, "speculate": 3, "resolve": 4, "prune": 10,
     "vacuum": 4, "freeze": 6, "visible": 3, "images": 3, "whole_page": 1.5, "truncate": 4, "lock": 1, "end": 22,
-    "running": 3, "begin_checkpoint": 3, "shutdown": 0.5, "pass_over": 3, "foreign": 1.5, "switch": 0.3,
-    "backup_end": 0.5, "give_up": 0.3}
+    "nest": 2, "assign": 5, "running": 3, "begin_checkpoint": 3, "shutdown": 0.5, "pass_over": 3, "foreign": 1.5,
+    "switch": 0.3, "backup_end": 0.5, "give_up": 0.3}
+
+# what may cancel a scan: a log without it shows what becomes of one that stays open
+CANCELLING = ["prune", "freeze", "visible", "truncate", "lock", "foreign"]

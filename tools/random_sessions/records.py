@@ -9,7 +9,8 @@ A record has a kind, the transaction id of its header, its blocks of the main fo
     vacuum         freed                          freeze         horizon plans, each (xmax, mask2, mask, lines)
     visible        horizon flags                  images         hint
     truncate       blocks rel                     locks          entries, each (xid, database, oid)
-    commit, abort  subs files                     running        tops subs overflow next oldest latest
+    commit, abort  subs files                     assignment     top subs
+    running        tops subs overflow next oldest latest
     checkpoint     redo next shutdown             backup-end     redo
     other          manager info main              switch
 
@@ -179,6 +180,7 @@ def checkpoint(record):
 BODIES = {
     "insert": insert, "multi-insert": multi_insert, "update": update, "prune": prune, "freeze": freeze, "locks": locks,
     "commit": ended, "abort": ended, "running": running, "checkpoint": checkpoint,
+    "assignment": lambda r: (1, 0x50, struct.pack("<Ii", r.top, len(r.subs)) + numbers("<I", r.subs), b""),
     "delete": lambda r: (10, 0x10, marked(r), b""),
     "lock": lambda r: (10, 0x60, marked(r), b""),
     "lock-updated": lambda r: (9, 0x60, marked(r), b""),

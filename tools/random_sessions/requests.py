@@ -33,8 +33,12 @@ class Requests:
         """Opens a scan; where none is admitted yet, it mostly replays first."""
         if self.standby.refuses_scans() and self.draw.random() < 0.8:
             return self.replay(1)
+        self.say("open " + self.some_table())
+
+    def some_table(self):
+        """The name of a table, mostly of one that is there."""
         there = [table for table in self.log.tables if self.standby.d.gone(table.rel, self.standby.n) is None]
-        self.say("open " + self.draw.choice(there if there and self.draw.random() < 0.8 else self.log.tables).name)
+        return self.draw.choice(there if there and self.draw.random() < 0.8 else self.log.tables).name
 
     def read(self):
         """A page or some of a scan that is open, mostly; rarely of one that is not."""
@@ -78,11 +82,32 @@ class Requests:
         self.close()
         self.open()
 
+    def late(self):
+        """Opens scans at some fronts, mostly where subtransactions are known by their parents alone, and reads them some
+        or many records later."""
+        draw, count, told = self.draw, len(self.log.records), self.standby
+        fronts = [n for n in range(count) if told.d.are_known_by_parent(n)]
+        if not fronts or draw.random() < 0.2:
+            fronts = list(range(count))
+        for front in sorted(draw.sample(fronts, min(len(fronts), draw.choice([1, 2, 4, 8])))):
+            if front > told.n:
+                self.replay(front - told.n)
+            if told.refuses_scans() and draw.random() < 0.5:
+                self.status()
+            self.say("open " + self.some_table())
+        if told.n < count:
+            self.replay(draw.choice([1, draw.randint(1, count - told.n), count - told.n]))
+        self.status()
+        if draw.random() < 0.6:
+            self.read_all()
+
     def source(self):
         """The lines of a session, and (what the evaluation answers, the exit status)."""
         draw, count = self.draw, len(self.log.records)
         steps, crowds = draw.choice([1, 2, 5, 10]), draw.random() < 0.03
-        if draw.random() < 0.5:
+        if draw.random() < 0.4:
+            self.late()
+        elif draw.random() < 0.5:
             self.replay(draw.randrange(1, max(2, count)))
         names, weights = zip(*WEIGHTS.items())
         while self.standby.n < count and len(self.lines) < 200:

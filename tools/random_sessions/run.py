@@ -12,7 +12,7 @@ from pathlib import Path
 from . import legal, misses
 from .alterations import Alteration
 from .archive import Ending, assembled, write_files
-from .definitions import Definitions, Log
+from .definitions import Definitions, Log, overflows
 from .primary import Primary
 from .requests import Requests
 from .standby import AbstractStandby, answers, scanned
@@ -77,6 +77,16 @@ def words_of(text):
     return Counter(line.split(b" ")[0].decode("latin-1") for line in text.split(b"\n")[:-1])
 
 
+def course(d):
+    """What a standby knows of the running transactions before it knows all, and which record tells it then."""
+    records = d.records
+    at = next((n for n in range(len(records)) if d.state(n + 1) == "ready"), None)
+    if at is None:
+        return "stays " + d.state(len(records))
+    what = "a shutdown" if records[at].kind != "running" else "its oldest" if overflows(records[at]) else "a whole record"
+    return "%s up to %s" % (d.state(at), what)
+
+
 class Trial:
     """One random log with its sessions and near misses."""
 
@@ -95,6 +105,7 @@ class Trial:
             raise Difference("the log maker's record %d (%s) breaks: %s" % (fault[0], log.records[fault[0]].kind, fault[1]))
         self.told.update("record " + record.kind for record in log.records)
         self.told.update(logs=1, records=len(log.records))
+        self.told["course " + course(d)] += 1
         with Folder(self.program, self.room, log, Ending(draw)) as folder:
             for _ in range(self.count):
                 self.session(folder, AbstractStandby(d, folder.ending))
@@ -138,10 +149,11 @@ class Trial:
     def miss(self, log, miss):
         """A near miss has to be refused by the check of legality; whether a scan is harmed is counted."""
         d = Definitions(Log(miss.records, log.tables, log.tops, log.database, log.start))
-        fault = legal.fault(d)
+        found = legal.faults(d)
         self.told.update(["misses", "miss " + miss.what])
-        if fault is None:
-            raise Difference("a near miss (%s, at record %d) is not told apart" % (miss.what, miss.number))
+        if not found or miss.clauses and found != [(miss.number, clause) for clause in miss.clauses]:
+            raise Difference("a near miss (%s, at record %d) is not told apart, or breaks more: %s" % (
+                miss.what, miss.number, found))
         self.told["told apart"] += 1
         with Folder(self.program, self.room, d.log, Ending(self.draw)) as folder:
             standby = AbstractStandby(d, folder.ending)
@@ -164,8 +176,9 @@ def summary(told, seed, is_long):
              "Near misses: %d drawn, %d told apart, %d answered otherwise than the rows" % (
                  told["sessions"], told["logs"], told["records"], told["altered legal"], seed, told["misses"],
                  told["told apart"], told["answered otherwise"])]
-    for name, start in (("records", "record "), ("first words of answers", "answer "), ("near misses", "miss "),
-                        ("answered otherwise", "otherwise "), ("logs with one number changed", "altered ")):
+    for name, start in (("records", "record "), ("snapshot states", "course "), ("first words of answers", "answer "),
+                        ("near misses", "miss "), ("answered otherwise", "otherwise "),
+                        ("logs with one number changed", "altered ")):
         counts = ["%s %d" % (word[len(start):], told[word]) for word in sorted(told) if word.startswith(start)]
         lines.append("%s: %s" % (name, ", ".join(counts)))
     return "\n".join(lines if is_long else lines[:1])

@@ -30,10 +30,7 @@ class AbstractStandby:
         return not any(record.kind == "backup-end" and record.redo == self.log.start for record in self.log.records[:self.n])
 
     def state(self):
-        """Ready from a shutdown checkpoint or a running-transactions record on that leaves no subtransaction out."""
-        settled = any(record.kind == "running" or record.kind == "checkpoint" and record.shutdown
-                      for record in self.log.records[:self.n])
-        return "ready" if settled else "initialized"
+        return self.d.state(self.n)
 
     def backup(self):
         return "awaited" if self.is_awaited() else "ended"

@@ -1,5 +1,6 @@
-//! The records of small transactions.
-ghost use Rattle.std.specs.Prelude.{◌≡◌, ◌+◌};
+//! The records of small transactions, and of transactions with subtransactions.
+ghost use Rattle.std.specs.Prelude.{◌≡◌, ◌+◌, ◌^◌, ◌≤◌, All};
+ghost use Rattle.pg_types.specs.declared.names.Xid.{Xid};
 ghost use Rattle.xact_redo.specs.State.{AreIdsInRange};
 
 use pg_types::{Lsn, Xid};
@@ -96,4 +97,49 @@ pub fn end<'a>(number: u32) -> Rec<'a>
         files: Locators::none(),
     };
     record(head, position_of(number), kind)
+}
+
+/// Transaction ids that stand one after another, of four bytes each.
+fn ids_in<'a>(bytes: &'a [u8]) -> Xids<'a>
+    ensures { All (λ (x : Xid). x.0 ≤ 2 ^ 63 + 2 ^ 32) result }
+{
+    Xids::new(bytes, 0, bytes.len() / 4)
+}
+
+/// These subtransactions are assigned to a transaction.
+pub fn assignment<'a>(top: u32, ids: &'a [u8]) -> Rec<'a>
+    ensures { AreIdsInRange result }
+{
+    let head = RecordHead {
+        total: 0x30,
+        xid: Xid(u64::from(top)),
+        prev: Lsn(0),
+        info: 0x50,
+        manager: 1,
+    };
+    let kind = RecKind::Assignment {
+        top: Xid(u64::from(top)),
+        xids: ids_in(ids),
+    };
+    record(head, Lsn(0x200_0028), kind)
+}
+
+/// A transaction commits with these subtransactions.
+pub fn commit_of_tree<'a>(top: u32, ids: &'a [u8]) -> Rec<'a>
+    ensures { AreIdsInRange result }
+{
+    let head = RecordHead {
+        total: 0x30,
+        xid: Xid(u64::from(top)),
+        prev: Lsn(0),
+        info: 0x80,
+        manager: 1,
+    };
+    let kind = RecKind::Ended {
+        time: 0,
+        xinfo: 2,
+        xids: ids_in(ids),
+        files: Locators::none(),
+    };
+    record(head, Lsn(0x200_0058), kind)
 }

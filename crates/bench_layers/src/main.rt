@@ -13,6 +13,8 @@ mod replay;
 mod samples;
 mod transaction_replay;
 mod transactions;
+mod tree_replay;
+mod trees;
 
 use anyhow::Result;
 use std::env;
@@ -28,7 +30,7 @@ const START: u64 = 0x200_0028;
 
 fn usage(rt: &HostRuntime) -> Result<()> {
     println!(rt;
-        "usage: bench_layers records MIB, make SEGMENTS, read, redo, pages CHECKS, or transactions COUNT"
+        "usage: bench_layers records MIB, make SEGMENTS, read, redo, pages CHECKS, transactions COUNT, or subtransactions COUNT"
     )?;
     Ok(())
 }
@@ -39,7 +41,8 @@ fn run_small(rt: &HostRuntime) -> Result<()> {
     reading::read(rt, false)?;
     replay::replay(rt, false)?;
     pages::measure(rt, 10, false)?;
-    transactions::measure_small(rt, 100)
+    transactions::measure_small(rt, 100)?;
+    trees::measure_small(rt, 640)
 }
 
 /// Runs the benchmark of this name, over so much.
@@ -51,6 +54,7 @@ fn run(rt: &HostRuntime, name: &str, count: Option<u32>) -> Result<()> {
         ("redo", None) => replay::replay(rt, true),
         ("pages", Some(checks)) => pages::measure(rt, checks, true),
         ("transactions", Some(transactions)) => transactions::measure(rt, transactions),
+        ("subtransactions", Some(subtransactions)) => trees::measure(rt, subtransactions),
         _ => usage(rt),
     }
 }

@@ -35,12 +35,12 @@ impl Round {
     }
 }
 
-fn shorter(one: Duration, other: Duration) -> Duration {
+pub fn shorter(one: Duration, other: Duration) -> Duration {
     if one < other { one } else { other }
 }
 
 /// Picoseconds for each of so many.
-fn each(took: Duration, count: u32) -> u128 {
+pub fn each(took: Duration, count: u32) -> u128 {
     if count == 0 {
         0
     } else {

@@ -1,18 +1,19 @@
 //! What records do to the state of transactions.
 ghost use Rattle.wal_bodies.specs.Xids.{AreXidsShort};
 
-use crate::ids::ids;
+use crate::ids::{id, ids};
 use crate::known::show;
 use crate::statuses::name_of;
 use case_text::{Answer, Wrong, number_u32};
 use pg_types::Lsn;
 use std::alloc::Global;
 use tuple_visibility::Statuses;
-use wal_bodies::{Rec, RecKind, body};
+use wal_bodies::{Rec, body};
 use wal_record::{PrevRule, decode};
 use xact_redo::{XactState, redo, reserve};
 
-/// `status IDS` and `updater MULTIXACT` ask what is known; behind any other words stands a record.
+/// `status IDS`, `topmost IDS` and `updater MULTIXACT` ask what is known, and `forget_below ID` forgets parents; behind
+/// any other words stands a record.
 pub fn answer(
     alloc: Global,
     said: &mut Answer,
@@ -28,73 +29,37 @@ pub fn answer(
             }
             Ok(())
         }
+        ["topmost", list] => {
+            let list = ids(alloc, list)?;
+            for id in list.as_slice() {
+                said.field(" ", state.parents().topmost(*id).0);
+            }
+            Ok(())
+        }
+        ["forget_below", oldest] => {
+            state.forget_below(id(oldest)?);
+            Ok(())
+        }
         ["updater", id] => {
             let known = state.updater(number_u32(id)?).is_ok();
             said.say(if known { " known" } else { " unknown" });
             Ok(())
         }
-        ["running", "overflow", "yes", ..] => {
-            read(data, true, state)?;
-            show(alloc, said, &state.known)
-        }
         _ => {
-            read(data, false, state)?;
+            read(data, state)?;
             show(alloc, said, &state.known)
         }
     }
 }
 
-/// Applies the record of these bytes, which stands at 0/100 behind the one at 0/D0, or what it would be with
-/// subtransactions left out.
-fn read(data: &[u8], is_overflowed: bool, state: &mut XactState) -> Result<(), Wrong> {
+/// Applies the record of these bytes, which stands at 0/100 behind the one at 0/D0.
+fn read(data: &[u8], state: &mut XactState) -> Result<(), Wrong> {
     match decode(data, Lsn(0x100), PrevRule::Is(Lsn(0xD0))) {
         Ok(view) => match body(&view, Lsn(0x100), Lsn(0x200), 16384, &[]) {
-            Ok(rec) if is_overflowed => apply(&overflowed(rec), state),
             Ok(rec) => apply(&rec, state),
             Err(_) => Err(Wrong::Bytes),
         },
         Err(_) => Err(Wrong::Bytes),
-    }
-}
-
-/// The record of running transactions of which some subtransactions are left out. `body` refuses one yet.
-fn overflowed<'a>(rec: Rec<'a>) -> Rec<'a>
-    requires { AreXidsShort rec }
-    ensures { AreXidsShort result }
-{
-    let Rec {
-        head,
-        start,
-        end,
-        kind,
-        blocks,
-    } = rec;
-    let kind = match kind {
-        RecKind::Running {
-            tops,
-            subs,
-            next,
-            oldest,
-            latest,
-            xids,
-            ..
-        } => RecKind::Running {
-            tops,
-            subs,
-            overflow: true,
-            next,
-            oldest,
-            latest,
-            xids,
-        },
-        other => other,
-    };
-    Rec {
-        head,
-        start,
-        end,
-        kind,
-        blocks,
     }
 }
 

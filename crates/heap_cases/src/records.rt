@@ -25,6 +25,10 @@ fn show_kind(answer: &mut Answer, rec: &Rec<'_>) {
         RecKind::Checkpoint { .. } => show_checkpoint(answer, &rec.kind),
         RecKind::Parameters { .. } => show_parameters(answer, &rec.kind),
         RecKind::Ended { .. } | RecKind::Running { .. } => show_xacts(answer, rec),
+        RecKind::Assignment { top, xids } => {
+            answer.field("assignment to ", top.0);
+            show_xids(answer, xids.again());
+        }
         RecKind::Truncate {
             block,
             locator,

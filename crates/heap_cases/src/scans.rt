@@ -11,16 +11,25 @@ use pg_types::{Status, Tag, Unknown, Xid, XidList};
 use seq_scan::{BlockEnd, read_block};
 use standby_snapshot::Snapshot;
 use std::alloc::Global;
+use subtrans::Subtrans;
 use tuple_visibility::Statuses;
 
-/// Transactions 50 and 52 committed, no other one did, and no multixact was made.
+/// Transactions 50 and 52 committed, no other one did, no subtransaction was assigned, and no multixact was made.
 #[derive(Drop)]
-struct Known {}
+struct Known {
+    subs: Subtrans,
+}
 
 impl Statuses for Known {
+    ghost parents_of = { λ k. k.subs.pairs };
+
     ghost status_of = { λ _ x. if (x == 50) || (x == 52) then Committed else Unset };
 
     ghost updater_of = { λ _ _. NoUpdater };
+
+    fn parents(&self) -> &Subtrans {
+        &self.subs
+    }
 
     fn status(&self, xid: Xid) -> Status {
         match xid.0 {
@@ -81,7 +90,10 @@ fn scan(
     requires { tag.table < table_count pool.old }
     ensures { table_count pool.new ≡ table_count pool.old }
 {
-    let block = read_block(alloc, pool, tag, columns, snapshot, &Known {})?;
+    let known = Known {
+        subs: Subtrans::new(alloc),
+    };
+    let block = read_block(alloc, pool, tag, columns, snapshot, &known)?;
     let mut answer = Answer::new(alloc);
     for row in block.rows.as_slice() {
         show_row(&mut answer, row);

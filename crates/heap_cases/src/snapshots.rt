@@ -11,22 +11,30 @@ use known_assigned::{KnownAssigned, State};
 use pg_types::{Status, Unknown, Xid};
 use standby_snapshot::{Snapshot, take};
 use std::alloc::Global;
+use subtrans::Subtrans;
 use tuple_visibility::{Statuses, visible};
 
-/// The commit log of a case, and five multixacts: 7 has the updater 50, 8 has none, 9 has 100, 10 has 51 and 11
-/// has 52.
+/// The commit log of a case, its parents of subtransactions, and five multixacts: 7 has the updater 50, 8 has none,
+/// 9 has 100, 10 has 51 and 11 has 52.
 #[derive(Drop)]
 struct Ended<'a> {
     log: &'a CommitLog,
+    subs: &'a Subtrans,
 }
 
 impl<'a> Statuses for Ended<'a> {
     ghost use Rattle.std.specs.Prelude.{◌==◌, if◌then◌else◌, None, Some};
     ghost use Rattle.commit_log.specs.Log.{status_of};
 
+    ghost parents_of = { λ e. e.subs.now.pairs };
+
     ghost status_of = { λ e. status_of e.log.now };
 
     ghost updater_of = { λ _ id. if id == 7 then Some (Some (record { 0 = 50 })) else if id == 8 then Some None else if id == 9 then Some (Some (record { 0 = 100 })) else if id == 10 then Some (Some (record { 0 = 51 })) else if id == 11 then Some (Some (record { 0 = 52 })) else None };
+
+    fn parents(&self) -> &Subtrans {
+        self.subs
+    }
 
     fn status(&self, xid: Xid) -> Status {
         self.log.get(xid)
@@ -57,7 +65,13 @@ pub fn answer(
     }
     match &layers.snapshot {
         None => Err(Wrong::Line),
-        Some(snapshot) => ask(alloc, said, snapshot, &layers.log, asked),
+        Some(snapshot) => {
+            let ended = Ended {
+                log: &layers.log,
+                subs: &layers.subs,
+            };
+            ask(alloc, said, snapshot, &ended, asked)
+        }
     }
 }
 
@@ -89,14 +103,14 @@ fn ask(
     alloc: Global,
     said: &mut Answer,
     snapshot: &Snapshot,
-    log: &CommitLog,
+    ended: &Ended<'_>,
     asked: &[&str],
 ) -> Result<(), Wrong> {
     match *asked {
         ["in_progress", list] => {
             let list = ids(alloc, list)?;
             for id in list.as_slice() {
-                said.say(yes_or_no(snapshot.in_progress(*id)));
+                said.say(yes_or_no(snapshot.in_progress(*id, ended.subs)));
             }
             Ok(())
         }
@@ -105,7 +119,7 @@ fn ask(
             for xmin in xmins.split(',') {
                 for xmax in xmaxs.split(',') {
                     let xids = [number_u32(xmin)?, number_u32(xmax)?];
-                    sees(said, snapshot, log, xids, mask)?;
+                    sees(said, snapshot, ended, xids, mask)?;
                 }
             }
             Ok(())
@@ -122,13 +136,13 @@ fn yes_or_no(is: bool) -> &'static str {
 fn sees(
     said: &mut Answer,
     snapshot: &Snapshot,
-    log: &CommitLog,
+    ended: &Ended<'_>,
     xids: [u32; 2],
     mask: u16,
 ) -> Result<(), Wrong> {
     let header = header(xids, mask);
     let tuple = TupleView::read(&header).ok_or(Wrong::Bytes)?;
-    match visible(&tuple, snapshot, &Ended { log }) {
+    match visible(&tuple, snapshot, ended) {
         Ok(is) => said.say(yes_or_no(is)),
         Err(Unknown { id }) => said.field(" unknown_multixact_", u64::from(id)),
     }

@@ -4,9 +4,9 @@ use Rattle.std.proofs.Math.Path.{fun_ext}
 use Rattle.pg_types.specs.declared.names.Locator.{Locator}
 use Rattle.page_store.specs.Content.{Blocks, truncated}
 use Rattle.page_store.specs.Seen.{Seen, absent, seen, View, view_of}
-use Rattle.wal_bodies.specs.declared.types.Rec.{Rec}
-use Rattle.wal_bodies.specs.declared.types.RecKind.{RecKind}
-use Rattle.wal_bodies.specs.declared.types.RecKind.TheVariants.{Checkpoint, BackupEnd, Parameters, FullPageWrites, Images, Overwrite, Ended, Running, Insert, Delete, Update, Confirm, Lock, MultiInsert, LockUpdated, Prune, Vacuum, Freeze, Visible, Truncate, Locks, Other}
+use Rattle.typed_records.specs.declared.types.Rec.{Rec}
+use Rattle.typed_records.specs.declared.types.RecKind.{RecKind}
+use Rattle.typed_records.specs.declared.types.RecKind.TheVariants.{Checkpoint, BackupEnd, Parameters, FullPageWrites, Images, Overwrite, Ended, Assignment, Running, Insert, Delete, Update, Confirm, Lock, MultiInsert, LockUpdated, Prune, Vacuum, Freeze, Visible, Truncate, Locks, Other}
 use Rattle.wal_bodies.specs.Typed.{is_commit}
 use Rattle.heap_redo.specs.Redone.{table_of, cut, cut_file, drop_files, cut_by, redone, redone_unless, redone_record}
 
@@ -93,6 +93,7 @@ cuts rec Images known = inl (λ view. refl)
 cuts rec (Overwrite given_up time) known = inl (λ view. refl)
 cuts rec (Ended time xinfo xids files) known =
     inr (λ view. cond (is_commit rec.head) (drop_files known files view) view, λ view. refl, λ view. ended-again (is_commit rec.head) known files view)
+cuts rec (Assignment top xids) known = inl (λ view. refl)
 cuts rec (Running tops subs overflow next oldest latest xids) known = inl (λ view. refl)
 cuts rec (Insert line flags) known = inl (λ view. refl)
 cuts rec (Delete xmax line bits flags) known = inl (λ view. refl)

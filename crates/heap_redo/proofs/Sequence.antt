@@ -1,8 +1,8 @@
 -- The blocks of a record, one after the other.
 use Rattle.std.proofs.Common.{ap, sym, refl, ◌∙◌, ◌≡◌, List, [], ◌∷◌, ◌++◌, length, take, slice_get, Some, Result, Ok, Err}
 use Rattle.pg_types.specs.declared.names.Locator.{Locator}
-use Rattle.wal_bodies.specs.declared.types.Rec.{Rec}
-use Rattle.wal_bodies.specs.declared.types.RecBlock.{RecBlock}
+use Rattle.typed_records.specs.declared.types.Rec.{Rec}
+use Rattle.typed_records.specs.declared.types.RecBlock.{RecBlock}
 use Rattle.heap_redo.specs.declared.fault.RedoFault.{RedoFault}
 use Rattle.page_store.specs.Seen.{View}
 use Rattle.heap_redo.specs.Redone.{Outcome, and_then, redone_at, redone}

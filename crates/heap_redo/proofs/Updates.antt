@@ -9,10 +9,10 @@ use Rattle.heap_page.specs.Put.{put_answer, is_free, size_with}
 use Rattle.heap_page.specs.declared.line.PageError.{PageError}
 use Rattle.heap_page.specs.declared.line.PageError.TheVariants.{Full, NoLine, BadPage}
 use Rattle.heap_page.proofs.Overwrite.{joined-tuple}
-use Rattle.wal_bodies.specs.declared.types.NewTuple.{NewTuple}
-use Rattle.wal_bodies.specs.declared.types.Rec.{Rec}
-use Rattle.wal_bodies.specs.declared.types.RecBlock.{RecBlock}
-use Rattle.wal_bodies.specs.Stored.{first_of}
+use Rattle.typed_records.specs.declared.types.NewTuple.{NewTuple}
+use Rattle.typed_records.specs.declared.types.Rec.{Rec}
+use Rattle.typed_records.specs.declared.types.RecBlock.{RecBlock}
+use Rattle.typed_records.specs.Stored.{first_of}
 use Rattle.heap_redo.specs.TupleHeads.{head_bytes}
 use Rattle.heap_redo.specs.After.{BlockRefusal, no_tuple, answered, put, tuple_of, joined, user_data, put_version, is_short, update_old, update_within, ◌>>=◌, new_head}
 use Rattle.heap_redo.proofs.Versions.{drop-first}

@@ -4,7 +4,7 @@ use Rattle.std.proofs.Math.Seq.{drop-cons, take-append-add}
 use Rattle.std.proofs.lemmas.Bool.{cases_lt}
 use Rattle.std.proofs.lemmas.List.{length-append, take_min, take_all, length-take, length-drop, get_or_default, take-append-le, take-take, drop_all}
 use Rattle.heap_page.specs.Item.{Item}
-use Rattle.wal_bodies.specs.declared.types.NewTuple.{NewTuple}
+use Rattle.typed_records.specs.declared.types.NewTuple.{NewTuple}
 use Rattle.heap_redo.specs.After.{BlockRefusal, ◌>>=◌, put, put_listed, tuple_of, joined}
 
 -- the end of a text, from where the first part ends on

@@ -8,9 +8,9 @@ use Rattle.heap_page.specs.Page.{is_page, lsn_of, items_of}
 use Rattle.page_store.specs.declared.pool.PoolFault.{PoolFault}
 use Rattle.page_store.specs.declared.pool.PoolFault.TheVariants.{Missing, BadPage}
 use Rattle.page_store.specs.Content.{Blocks, is_at, with_block, or_zeros, filled_below, page_answer}
-use Rattle.wal_bodies.specs.declared.types.RecImage.{RecImage}
-use Rattle.wal_bodies.specs.declared.types.Rec.{Rec}
-use Rattle.wal_bodies.specs.declared.types.RecBlock.{RecBlock}
+use Rattle.typed_records.specs.declared.types.RecImage.{RecImage}
+use Rattle.typed_records.specs.declared.types.Rec.{Rec}
+use Rattle.typed_records.specs.declared.types.RecBlock.{RecBlock}
 use Rattle.heap_redo.specs.After.{BlockRefusal, applied}
 use Rattle.heap_redo.specs.declared.fault.RedoFault.{RedoFault}
 use Rattle.heap_redo.specs.Refused.{pool_fault_at}

@@ -9,13 +9,13 @@ use Rattle.record_fields.specs.declared.entries.Redirect.{Redirect}
 use Rattle.record_fields.specs.declared.entries.FreezePlan.{FreezePlan}
 use Rattle.heap_page.specs.declared.line.PageError.{PageError}
 use Rattle.heap_page.specs.declared.line.PageError.TheVariants.{Full, NoLine, BadPage}
-use Rattle.wal_bodies.specs.declared.types.RecImage.{RecImage}
-use Rattle.wal_bodies.specs.declared.types.NewTuple.{NewTuple}
-use Rattle.wal_bodies.specs.declared.types.RecBlock.{RecBlock}
-use Rattle.wal_bodies.specs.declared.types.Rec.{Rec}
-use Rattle.wal_bodies.specs.declared.types.RecKind.{RecKind}
-use Rattle.wal_bodies.specs.declared.types.RecKind.TheVariants.{Checkpoint, BackupEnd, Parameters, FullPageWrites, Images, Overwrite, Ended, Running, Insert, Delete, Update, Confirm, Lock, MultiInsert, LockUpdated, Prune, Vacuum, Freeze, Visible, Truncate, Locks, Other}
-pub use Rattle.wal_bodies.specs.Typed.{number_of}
+use Rattle.typed_records.specs.declared.types.RecImage.{RecImage}
+use Rattle.typed_records.specs.declared.types.NewTuple.{NewTuple}
+use Rattle.typed_records.specs.declared.types.RecBlock.{RecBlock}
+use Rattle.typed_records.specs.declared.types.Rec.{Rec}
+use Rattle.typed_records.specs.declared.types.RecKind.{RecKind}
+use Rattle.typed_records.specs.declared.types.RecKind.TheVariants.{Checkpoint, BackupEnd, Parameters, FullPageWrites, Images, Overwrite, Ended, Assignment, Running, Insert, Delete, Update, Confirm, Lock, MultiInsert, LockUpdated, Prune, Vacuum, Freeze, Visible, Truncate, Locks, Other}
+pub use Rattle.typed_records.specs.Blocks.{number_of}
 use Rattle.heap_redo.specs.TupleHeads.{Head, head_of, head_bytes, marked, pointing_to, deleted, replaced, locked, frozen}
 
 -- why a record is refused at a block: the block is missing, a line is not as the record has it, there is
@@ -185,6 +185,7 @@ changed rec block (FullPageWrites on) items = Ok items
 changed rec block Images items = Ok items
 changed rec block (Overwrite given_up time) items = Ok items
 changed rec block (Ended time xinfo xids files) items = Ok items
+changed rec block (Assignment top xids) items = Ok items
 changed rec block (Running tops subs overflow next oldest latest xids) items = Ok items
 changed rec block (Insert line flags) items = put_listed rec.head.xid.0 block.block (line ∷ []) block.tuples items
 changed rec block (Delete xmax line bits flags) items =
@@ -233,6 +234,7 @@ is_images (FullPageWrites on) = false
 is_images Images = true
 is_images (Overwrite given_up time) = false
 is_images (Ended time xinfo xids files) = false
+is_images (Assignment top xids) = false
 is_images (Running tops subs overflow next oldest latest xids) = false
 is_images (Insert line flags) = false
 is_images (Delete xmax line bits flags) = false

@@ -4,10 +4,10 @@ use Rattle.std.specs.Prelude.{◌≡◌, ◌⊎◌, ℕ, take, ◌==◌, Bool, f
 use Rattle.pg_types.specs.declared.names.Tag.{Tag}
 use Rattle.pg_types.specs.declared.names.Locator.{Locator}
 use Rattle.page_store.specs.Content.{zeros, is_at}
-use Rattle.wal_bodies.specs.declared.types.Rec.{Rec}
-use Rattle.wal_bodies.specs.declared.types.RecBlock.{RecBlock}
-use Rattle.wal_bodies.specs.declared.types.RecKind.{RecKind}
-use Rattle.wal_bodies.specs.declared.types.RecKind.TheVariants.{Ended, Truncate}
+use Rattle.typed_records.specs.declared.types.Rec.{Rec}
+use Rattle.typed_records.specs.declared.types.RecBlock.{RecBlock}
+use Rattle.typed_records.specs.declared.types.RecKind.{RecKind}
+use Rattle.typed_records.specs.declared.types.RecKind.TheVariants.{Ended, Truncate}
 use Rattle.wal_bodies.specs.Typed.{is_commit}
 use Rattle.pg_types.specs.Locators.{same_locator}
 use Rattle.heap_redo.specs.After.{BlockRefusal, no_page, Content, missing, broken, page, applied, is_images, after}

@@ -5,7 +5,7 @@ use Rattle.heap_page.specs.Item.{Item}
 use Rattle.heap_page.specs.Page.{items_of}
 use Rattle.page_store.specs.declared.pool.PoolFault.{PoolFault}
 use Rattle.page_store.specs.declared.pool.PoolFault.TheVariants.{Missing, BadPage as BrokenPage, Memory as NoRoom}
-use Rattle.wal_bodies.specs.declared.types.RecBlock.{RecBlock}
+use Rattle.typed_records.specs.declared.types.RecBlock.{RecBlock}
 use Rattle.heap_redo.specs.After.{BlockRefusal, no_page, no_tuple, page_full, bad_page, Content, page}
 use Rattle.heap_redo.specs.declared.fault.BlockFault.{BlockFault}
 use Rattle.heap_redo.specs.declared.fault.BlockFault.TheVariants.{NoPage, NoTuple, PageFull, BadPage}

@@ -4,7 +4,7 @@ use Rattle.std.proofs.lemmas.Bool.{and_left, and_parts, and_right, both_ways, ca
 use Rattle.pg_types.specs.declared.names.Locator.{Locator}
 use Rattle.heap_tuple.specs.Tuple.{xmin_of}
 use Rattle.heap_tuple.specs.declared.tuple_view.MaxOf.{MaxOf}
-use Rattle.wal_bodies.specs.declared.types.Rec.{Rec}
+use Rattle.typed_records.specs.declared.types.Rec.{Rec}
 use Rattle.row_model.specs.Versions.{Version, Inserter, Nobody, Always, By, FreezePlan, RowStep, Born, Deleter, Undone, Removed, Frozen, changed_at, deleter_of_plan, freezes, frozen_by, is_at, is_frozen, removed, taken_back, version_at, version_born, with_deleter, with_step, with_steps}
 use Rattle.row_model.specs.Origins.{HasFailed, IsLive, IsSameTree, LogOrigin, committed_in}
 use Rattle.row_model.specs.Multixacts.{deleter_in, multixacts}

@@ -8,10 +8,10 @@ use Rattle.pg_types.specs.declared.names.Locator.{Locator}
 use Rattle.pg_types.specs.Locators.{same_locator}
 use Rattle.pg_types.specs.declared.names.Lsn.{Lsn}
 use Rattle.record_fields.specs.declared.entries.LockEntry.{LockEntry}
-use Rattle.wal_bodies.specs.declared.types.RecBlock.{RecBlock}
-use Rattle.wal_bodies.specs.declared.types.Rec.{Rec}
-use Rattle.wal_bodies.specs.declared.types.RecKind.{RecKind}
-use Rattle.wal_bodies.specs.declared.types.RecKind.TheVariants.{Prune, Freeze, Visible}
+use Rattle.typed_records.specs.declared.types.RecBlock.{RecBlock}
+use Rattle.typed_records.specs.declared.types.Rec.{Rec}
+use Rattle.typed_records.specs.declared.types.RecKind.{RecKind}
+use Rattle.typed_records.specs.declared.types.RecKind.TheVariants.{Prune, Freeze, Visible}
 use Rattle.row_model.specs.Versions.{Version}
 use Rattle.row_model.specs.Origins.{LogOrigin}
 use Rattle.row_model.specs.RowSteps.{block_steps, steps_in}

@@ -10,7 +10,7 @@ use Rattle.heap_tuple.specs.declared.cell.Column.{Column}
 use Rattle.heap_page.specs.Item.{Item, is_normal, numbered}
 use Rattle.page_store.specs.Seen.{Seen, absent, bad_block, seen_page}
 use Rattle.wal_bodies.specs.Ends.{Rises}
-use Rattle.wal_bodies.specs.declared.types.Rec.{Rec}
+use Rattle.typed_records.specs.declared.types.Rec.{Rec}
 use Rattle.record_numbers.specs.Fits.{RecordFits}
 use Rattle.standby_snapshot.specs.Snapshot.{take_of}
 use Rattle.xact_redo.specs.Sees.{sees_by}
@@ -25,7 +25,7 @@ use Rattle.row_model.specs.LegalRows.{LegalLog}
 use Rattle.row_model.specs.Prefixes.{PrefixIsLegal}
 use Rattle.row_redo.specs.Shown.{BlocksShowVersions}
 use Rattle.row_redo.proofs.Tables.{legal_rows}
-use Rattle.row_visibility.specs.Sees.{SeesOpened, state_along}
+use Rattle.row_visibility.specs.Sees.{SeesOpened}
 use Rattle.row_pages.specs.Pages.{ReadsNothing, ReadsPlace, ReadsSeen, ReadsTable, ReadsTested, ScanGivesRead}
 use Rattle.row_pages.proofs.Reading.{not_seen, tested}
 use Rattle.row_pages.proofs.SameRow.{row_same}
@@ -123,9 +123,9 @@ module _ (o : LogOrigin) (later opened : List Rec) (columns : List Column) (sees
         }
 
 pub keeps_rows : PrefixIsLegal → BlocksShowVersions → SeesOpened → ScanGivesRead → KeepsRows
-keeps_rows prefix blocks_show sees_opened gives o known later opened view table locator columns xmin here empty none legal rises fits ready is_xmin present unlocked free done =
+keeps_rows prefix blocks_show sees_opened gives o known later opened view table locator columns xmin was now here empty none legal rises fits along_then ready since is_xmin present unlocked free done =
     let log : List Rec = later ++ opened in
-    let sees : List ℕ → Result Bool Unknown = sees_by (take_of (state_along opened).known) (state_along log) in
+    let sees : List ℕ → Result Bool Unknown = sees_by (take_of was.known) now in
     let legal_before = legal_then prefix o known later opened legal in
     let along = (legal_rows known locator table here o log legal.rows).along in
     let shown_before =
@@ -135,7 +135,7 @@ keeps_rows prefix blocks_show sees_opened gives o known later opened view table 
     blocks_show o known log view table locator here empty legal rises fits done
     (still_there o locator opened xmin is_xmin present unlocked shown_before.sound later along free) in
     let reads =
-    table_read o later opened columns sees (sees_opened o later opened none legal.transactions ready)
+    table_read o later opened columns sees (sees_opened o later opened was now none legal.transactions along_then ready since)
     (versions o locator opened) (versions o locator log) (block_count o locator opened) (block_count o locator log)
     (legal_before.view table) (view table)
     (count_along o locator opened xmin is_xmin present unlocked shown_before.sound later along free)

@@ -9,9 +9,9 @@ use Rattle.heap_page.specs.Item.{with_item}
 use Rattle.heap_page.specs.Put.{put_answer, set_head_answer, set_line_answer}
 use Rattle.pg_types.specs.Locators.{same_locator}
 use Rattle.wal_bodies.specs.Typed.{ids_of}
-use Rattle.wal_bodies.specs.declared.types.NewTuple.{NewTuple}
-use Rattle.wal_bodies.specs.declared.types.RecBlock.{RecBlock}
-use Rattle.wal_bodies.specs.declared.types.Rec.{Rec}
+use Rattle.typed_records.specs.declared.types.NewTuple.{NewTuple}
+use Rattle.typed_records.specs.declared.types.RecBlock.{RecBlock}
+use Rattle.typed_records.specs.declared.types.Rec.{Rec}
 use Rattle.heap_redo.specs.TupleHeads.{deleted, head_bytes, head_of, marked_mask, marked_mask2, replaced}
 use Rattle.heap_redo.specs.After.{after, after_change, applied, change_head, changed, changed_page, freeze, freeze_lines, joined, prune, put, put_listed, put_version, redirect_lines, set_line, set_lines, tuple_of, update, update_old, update_within}
 use Rattle.heap_redo.specs.Redone.{grown, redone, redone_at, redone_block, redone_record, view_with, with_seen}

@@ -1,7 +1,7 @@
 -- Transactions since an opening: who had committed then, and whom a horizon below the least live id covers.
 use Rattle.std.proofs.Common.{◌≡◌, ℕ, ◌<◌, ◌≤◌, true, false, List, [], ◌∷◌, ◌++◌, arith, sym, refl, ◌∙◌, subst, inl, inr}
 use Rattle.std.proofs.lemmas.Bool.{both_ways, cases_lt, false_from_ne_true, or_left, or_right}
-use Rattle.wal_bodies.specs.declared.types.Rec.{Rec}
+use Rattle.typed_records.specs.declared.types.Rec.{Rec}
 use Rattle.transaction_model.specs.Transactions.{IsXmin, Statuses, TransactionRecord, commits, committed}
 use Rattle.transaction_model.specs.LegalTransactions.{Legal}
 use Rattle.transaction_model.proofs.Endings.{committed_stays, committed_top, legal_rest, live_before, live_not_committed, live_top, origin_rule}

@@ -4,7 +4,7 @@ use Rattle.std.proofs.lemmas.Bool.{and_parts, both_ways, cases_lt, lt-ltb, ltb-t
 use Rattle.std.proofs.lemmas.List.Elements.{All-cons, All-nil}
 use Rattle.heap_tuple.specs.declared.cell.Column.{Column}
 use Rattle.wal_bodies.specs.Ends.{Rises, end_of}
-use Rattle.wal_bodies.specs.declared.types.Rec.{Rec}
+use Rattle.typed_records.specs.declared.types.Rec.{Rec}
 use Rattle.page_store.specs.Seen.{View}
 use Rattle.known_assigned.specs.Known.{after_end, after_observe, after_running, made_anew, past_oldest, unobserved}
 use Rattle.known_assigned.specs.declared.state.State.TheVariants.{Ready}
@@ -25,6 +25,7 @@ use Rattle.row_model.specs.Rows.{OneRows}
 use Rattle.row_model.specs.WorkedRows.{IsWorkedRows, backup_end, commit_of_700, commit_of_701, first_row, insert_by_700, nothing_runs, online_checkpoint, update_by_701, worked_first, worked_log, worked_origin, worked_start, worked_table}
 use Rattle.recovery_conflict.specs.Causes.{cause_of}
 use Rattle.row_visibility.specs.Sees.{HasNoStatuses, state_along}
+use Rattle.row_visibility.proofs.Forgetting.{all_kept_is, all_kept_on}
 use Rattle.row_pages.specs.Pages.{AreScanned}
 use Rattle.kept_rows.specs.Kept.{KeepsRows}
 use Rattle.kept_rows.specs.WorkedKept.{IsWorkedKept}
@@ -105,8 +106,11 @@ first_kept :
     → AreScanned columns (sees_by (take_of (state_along worked_first).known) (state_along worked_log)) 1 (view 0) (first_row ∷ [])
 first_kept keeps one worked view columns done =
     let (rows, are, scanned) =
-    keeps worked_origin (worked_table ∷ []) (commit_of_701 ∷ update_by_701 ∷ []) worked_first view 0 worked_table columns 701 refl
-    worked.empty none_had worked.legal log_rises worked.fits first_ready first_xmin refl none_locked later_free done in
+    keeps worked_origin (worked_table ∷ []) (commit_of_701 ∷ update_by_701 ∷ []) worked_first view 0 worked_table columns 701
+    (state_along worked_first) (state_along worked_log) refl worked.empty none_had worked.legal log_rises worked.fits
+    (all_kept_is worked_first) first_ready
+    (all_kept_on (commit_of_701 ∷ update_by_701 ∷ []) worked_first (take_of (state_along worked_first).known).xmin) first_xmin
+    refl none_locked later_free done in
     let same : rows ≡ first_row ∷ [] =
     one (multixacts worked_first) (committed_in worked_origin worked_first) (versions worked_origin worked_table worked_first) rows
     (first_row ∷ []) are worked.first in

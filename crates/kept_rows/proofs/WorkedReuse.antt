@@ -6,7 +6,7 @@ use Rattle.std.proofs.lemmas.List.Sorted.{IsPermutation-refl}
 use Rattle.pg_types.specs.Numbers.{number_at}
 use Rattle.heap_tuple.specs.Tuple.{is_lock_only, max_of}
 use Rattle.heap_tuple.specs.declared.cell.Column.{Column}
-use Rattle.wal_bodies.specs.declared.types.Rec.{Rec}
+use Rattle.typed_records.specs.declared.types.Rec.{Rec}
 use Rattle.heap_redo.specs.TupleHeads.{head_bytes, marked_mask}
 use Rattle.heap_redo.specs.After.{tuple_of}
 use Rattle.page_store.specs.Seen.{View}
@@ -30,6 +30,7 @@ use Rattle.row_model.specs.Rows.{IsRows, OneRows}
 use Rattle.row_model.specs.WorkedRows.{IsWorkedRows, commit_of_701, update_by_701, worked_first, worked_origin, worked_table}
 use Rattle.recovery_conflict.specs.Causes.{cause_of}
 use Rattle.row_visibility.specs.Sees.{state_along}
+use Rattle.row_visibility.proofs.Forgetting.{all_kept_is, all_kept_on}
 use Rattle.row_pages.specs.Pages.{AreScanned}
 use Rattle.kept_rows.specs.Kept.{KeepsRows}
 use Rattle.kept_rows.specs.WorkedReuse.{IsWorkedReuse, commit_second, commit_third, delete_first, free_first, freeze_second, insert_second, insert_third, prune_first, reuse_later, reuse_log, reuse_opened, second_version, third_version}
@@ -105,8 +106,10 @@ reuse_kept :
     → AreScanned columns (sees_by (take_of (state_along reuse_opened).known) (state_along reuse_log)) 1 (view 0) (second_version ∷ [])
 reuse_kept keeps one worked view columns done =
     let (rows, are, scanned) =
-    keeps worked_origin (worked_table ∷ []) reuse_later reuse_opened view 0 worked_table columns 702 refl worked.empty none_had
-    (reuse_legal worked) (rises_tested reuse_log refl) (reuse_fits (first_fit worked)) reuse_ready reuse_xmin refl none_locked
+    keeps worked_origin (worked_table ∷ []) reuse_later reuse_opened view 0 worked_table columns 702
+    (state_along reuse_opened) (state_along reuse_log) refl worked.empty none_had (reuse_legal worked)
+    (rises_tested reuse_log refl) (reuse_fits (first_fit worked)) (all_kept_is reuse_opened) reuse_ready
+    (all_kept_on reuse_later reuse_opened (take_of (state_along reuse_opened).known).xmin) reuse_xmin refl none_locked
     reuse_free done in
     let same : rows ≡ second_version ∷ [] =
     one (multixacts reuse_opened) (committed_in worked_origin reuse_opened) (versions worked_origin worked_table reuse_opened) rows

@@ -7,10 +7,10 @@ use Rattle.heap_tuple.specs.declared.cell.Column.{Column}
 use Rattle.heap_tuple.specs.declared.tuple_view.MaxOf.TheVariants.{None as NoDeleter}
 use Rattle.record_fields.specs.declared.entries.FreezePlan as listed
 use Rattle.wal_bodies.specs.Ends.{Rises}
-use Rattle.wal_bodies.specs.declared.types.NewTuple.{NewTuple}
-use Rattle.wal_bodies.specs.declared.types.RecBlock.{RecBlock}
-use Rattle.wal_bodies.specs.declared.types.Rec.{Rec}
-use Rattle.wal_bodies.specs.declared.types.RecKind.TheVariants.{Delete, Ended, Freeze, Insert, Prune, Vacuum}
+use Rattle.typed_records.specs.declared.types.NewTuple.{NewTuple}
+use Rattle.typed_records.specs.declared.types.RecBlock.{RecBlock}
+use Rattle.typed_records.specs.declared.types.Rec.{Rec}
+use Rattle.typed_records.specs.declared.types.RecKind.TheVariants.{Delete, Ended, Freeze, Insert, Prune, Vacuum}
 use Rattle.page_store.specs.Seen.{View}
 use Rattle.record_numbers.specs.Fits.{RecordFits}
 use Rattle.known_assigned.specs.declared.state.State.TheVariants.{Ready}

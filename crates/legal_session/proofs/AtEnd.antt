@@ -3,7 +3,7 @@ use Rattle.std.proofs.Common.{◌≡◌, ◌≢◌, ℕ, suc, ◌+◌, ◌<◌, 
 use Rattle.std.specs.List.{list_any}
 use Rattle.std.proofs.lemmas.List.{length-append}
 use Rattle.pg_types.specs.declared.names.Lsn.{Lsn}
-use Rattle.wal_bodies.specs.declared.types.Rec.{Rec}
+use Rattle.typed_records.specs.declared.types.Rec.{Rec}
 use Rattle.record_numbers.specs.Bytes.{TellsBytes}
 use Rattle.recovery_conflict.specs.declared.locks.Cause.{Cause}
 use Rattle.session_text.specs.Requests as request

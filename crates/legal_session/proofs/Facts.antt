@@ -1,7 +1,7 @@
 -- What the log of a standby gives: it is legal, its records rise and fit, and the blocks show the versions.
 use Rattle.std.proofs.Common.{◌≡◌, ℕ, ◌<◌, Bool, false, nat_lt, List, [], ◌∷◌, ◌++◌, All, Result, Some, Ok, Err, arith, refl, sym, ap, ◌∙◌, inl, inr}
 use Rattle.std.proofs.lemmas.Bool.{cases_order, false≢true, le-ltb, lt-ltb}
-use Rattle.wal_bodies.specs.declared.types.Rec.{Rec}
+use Rattle.typed_records.specs.declared.types.Rec.{Rec}
 use Rattle.wal_bodies.specs.Ends.{Rises}
 use Rattle.heap_redo.specs.declared.fault.RedoFault.{RedoFault}
 use Rattle.heap_redo.specs.Redone.{redone_record, table_of, view_outcome}
@@ -16,7 +16,7 @@ use Rattle.row_model.specs.LegalRows.{LegalLog}
 use Rattle.row_model.specs.Locks.{is_gone}
 use Rattle.row_model.specs.Shown.{ShowsSeen, ShowsTable}
 use Rattle.row_redo.specs.Shown.{BlocksShowVersions}
-use Rattle.row_visibility.specs.Sees.{StateAlong, XminAlong}
+use Rattle.row_visibility.specs.Sees.{NoneBelowXmin, StateAlong, XminAlong}
 use Rattle.kept_rows.specs.Kept.{KeepsRows}
 use Rattle.table_schema.specs.Description.{locators}
 use Rattle.table_schema.specs.Laws.{TablesAreApart}
@@ -41,6 +41,7 @@ pub record Laws : Type 0 where
   pub apart : TablesAreApart
   pub along : StateAlong
   pub xmin : XminAlong
+  pub none_below : NoneBelowXmin
   pub keeps : KeepsRows
 
 -- what a standby lives in is as the laws ask for

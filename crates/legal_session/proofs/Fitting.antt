@@ -8,8 +8,8 @@ use Rattle.wal_record.specs.declared.types.PrevRule.{PrevRule}
 use Rattle.wal_reader.specs.declared.types.NoRecord.{NoRecord}
 use Rattle.wal_reader.specs.Step.{Entry, step}
 use Rattle.wal_reader.specs.Told.{Told}
-use Rattle.wal_bodies.specs.declared.types.BodyFault.{BodyFault}
-use Rattle.wal_bodies.specs.declared.types.Rec.{Rec}
+use Rattle.typed_records.specs.declared.types.BodyFault.{BodyFault}
+use Rattle.typed_records.specs.declared.types.Rec.{Rec}
 use Rattle.record_numbers.specs.Bytes.{TellsBytes}
 use Rattle.record_numbers.specs.Fits.{RecordFits}
 use Rattle.record_numbers.specs.Laws.{ToldNumbersFit}

@@ -1,7 +1,7 @@
 -- What one step of the abstract standby may change, in one form for all events.
 use Rattle.std.proofs.Common.{◌≡◌, ℕ, Bool, true, false, not, ◌&&◌, [], Option, Some, None, Result, Ok, Err, refl, sym, subst, ap, if◌then◌else◌}
 use Rattle.std.specs.Prelude.{is_some}
-use Rattle.wal_bodies.specs.declared.types.Rec.{Rec}
+use Rattle.typed_records.specs.declared.types.Rec.{Rec}
 use Rattle.recovery_conflict.specs.declared.locks.Cause.{Cause}
 use Rattle.row_model.specs.Locks.{HeldLock, locks}
 use Rattle.seq_scan.specs.BlockRows.{BlockRows}

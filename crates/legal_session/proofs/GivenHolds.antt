@@ -7,7 +7,7 @@ use Rattle.pg_types.specs.declared.names.Lsn.{Lsn}
 use Rattle.heap_redo.specs.Redone.{table_of}
 use Rattle.known_assigned.specs.declared.state.State.{State}
 use Rattle.known_assigned.specs.declared.state.State.TheVariants.{Initialized, Pending, Ready}
-use Rattle.wal_bodies.specs.declared.types.Rec.{Rec}
+use Rattle.typed_records.specs.declared.types.Rec.{Rec}
 use Rattle.record_numbers.specs.Laws.{ToldNumbersFit}
 use Rattle.row_model.specs.Versions.{Version}
 use Rattle.row_model.specs.RowSteps.{block_count, versions}
@@ -17,7 +17,7 @@ use Rattle.row_model.specs.Multixacts.{multixacts}
 use Rattle.row_model.specs.Locks.{drops, is_gone}
 use Rattle.row_pages.specs.Pages.{ScanGivesRows, rows_of_versions}
 use Rattle.row_redo.specs.Shown.{BlocksShowVersions}
-use Rattle.row_visibility.specs.Sees.{SeesRows, StateAlong, state_along}
+use Rattle.row_visibility.specs.Sees.{AllKept, SeesRows, StateAlong, state_along}
 use Rattle.session_text.specs.Requests.{Request}
 use Rattle.standby_model.specs.Laws.{LogRises}
 use Rattle.standby_model.specs.Log.{Stands}
@@ -65,20 +65,20 @@ ready_is Ready e = refl
 
 -- the rows of a described table that was not dropped, where the running transactions are known
 rows_are :
-    (logs : LogLaws) → StateAlong → SeesRows → ScanGivesRows → (w : World) (start : ℕ) (good : IsGood w start) (log : List Rec)
+    (logs : LogLaws) → AllKept → StateAlong → SeesRows → ScanGivesRows → (w : World) (start : ℕ) (good : IsGood w start) (log : List Rec)
     (table : ℕ) → Stands w.told (described_in w.tables) start log
     → table_of (locators w.tables) (file_of w.tables table) ≡ Some table → is_gone (file_of w.tables table) log ≡ false
     → is_ready (state_of (transactions_of log)) ≡ true
     → (rows : List Version)
     × IsRows (multixacts log) (committed_in (log_origin w) log) (versions (log_origin w) (file_of w.tables table) log) rows
-rows_are logs along sees_rows scan_gives w start good log table stands described there ready =
+rows_are logs kept along sees_rows scan_gives w start good log table stands described there ready =
     let o = log_origin w in
     let rules = legal_log logs w start good log stands in
-    let known = along o.transactions log rules.transactions ∙ ready_is (state_of (transactions_of log)) ready in
+    let known = along o.transactions log (state_along log) rules.transactions (kept log) ∙ ready_is (state_of (transactions_of log)) ready in
     let (rows, are, scanned) =
     scan_gives o log (versions o (file_of w.tables table) log) (block_count o (file_of w.tables table) log) (rules.view table)
     (columns_of w.tables table) (sees (state_along log)) (table_shown logs w start good log stands rules.view table rules.redone described there)
-    (λ v tuple shows sound. sees_rows o log (λ x. (refl, refl)) rules.transactions known v tuple shows sound) in
+    (λ v tuple shows sound. sees_rows o log (state_along log) (λ x. (refl, refl)) rules.transactions (kept log) known v tuple shows sound) in
     (rows, are)
 
 -- where a life begins no scan is open
@@ -121,7 +121,7 @@ pub one_place : (id at other there : ℕ) → ◌≡◌ {A = Reply} (Opened id a
 one_place id at other there e = cc
 
 module _
-    (apart : TablesAreApart) (logs : LogLaws) (along : StateAlong) (sees_rows : SeesRows) (scan_gives : ScanGivesRows)
+    (apart : TablesAreApart) (logs : LogLaws) (kept : AllKept) (along : StateAlong) (sees_rows : SeesRows) (scan_gives : ScanGivesRows)
     (pages_are : PagesAreRows) (one_rows : OneRows) (w : World) (redo : Lsn) (text : List ℕ) (good : IsGood w redo.0)
     (described : schema.Answers text (Ok w.tables)) where
   -- what is given of it, where it was opened
@@ -136,7 +136,7 @@ module _
       let there = is_there file s.life there_at in
       let ready =
       (and_parts (nat_le s.min (position_of s) && not (is_some s.awaited)) (is_ready (state_in s)) admitted).1 in
-      let (rows, are) = rows_are logs along sees_rows scan_gives w redo.0 good s.life table sound.stands known there ready in
+      let (rows, are) = rows_are logs kept along sees_rows scan_gives w redo.0 good s.life table sound.stands known there ready in
       let gave = gave_talks one_rows w id table s.life xmin rows are after answers 0 mid now is talks in
       record {
         rows = rows;
@@ -180,10 +180,10 @@ module _
       )
 
 pub scans_give_rows_hold :
-    TablesAreApart → LogRises → ToldNumbersFit → BlocksShowVersions → StateAlong → SeesRows → ScanGivesRows → PagesAreRows → OneRows → ScansGiveRows
-scans_give_rows_hold apart rises fits shown along sees_rows scan_gives pages_are one_rows w redo text sized tells described legal before after earlier answers name id at s mid now talks (reply, (xmin, least, opens), says) rest =
+    TablesAreApart → LogRises → ToldNumbersFit → BlocksShowVersions → AllKept → StateAlong → SeesRows → ScanGivesRows → PagesAreRows → OneRows → ScansGiveRows
+scans_give_rows_hold apart rises fits shown kept along sees_rows scan_gives pages_are one_rows w redo text sized tells described legal before after earlier answers name id at s mid now talks (reply, (xmin, least, opens), says) rest =
     let logs : LogLaws = record { all_rise = rises; fits = fits; shown = shown } in
     let good : IsGood w redo.0 = record { sized = sized; tells = tells; legal = legal } in
-    gave_opened apart logs along sees_rows scan_gives pages_are one_rows w redo text good described before after earlier answers name id at xmin s mid now reply
+    gave_opened apart logs kept along sees_rows scan_gives pages_are one_rows w redo text good described before after earlier answers name id at xmin s mid now reply
     talks least (one_reply (Opened id at) reply says)
     (opening_of w xmin s (number_named w.tables name) reply mid opens) rest

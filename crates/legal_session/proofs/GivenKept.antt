@@ -1,6 +1,6 @@
 -- What each step keeps, a session keeps; and how an abstract standby stands along its life.
 use Rattle.std.proofs.Common.{◌≡◌, ◌≢◌, ℕ, zero, suc, ◌+◌, ◌≤◌, Bool, true, false, ◌&&◌, List, [], ◌∷◌, map, None, Result, Ok, Err, arith, sym, ap, ◌∙◌, subst}
-use Rattle.wal_bodies.specs.declared.types.Rec.{Rec}
+use Rattle.typed_records.specs.declared.types.Rec.{Rec}
 use Rattle.session_text.specs.Requests as request
 use Rattle.session_text.specs.Requests.{Request}
 use Rattle.standby_model.specs.Log as log

@@ -1,6 +1,6 @@
 -- What the answers of a session say of a scan: where it is open where they begin, and where it is over.
 use Rattle.std.proofs.Common.{◌≡◌, ℕ, ◌≤◌, List, [], ◌∷◌, ◌++◌, Option, None, arith, refl, sym, ap, ◌∙◌, subst}
-use Rattle.wal_bodies.specs.declared.types.Rec.{Rec}
+use Rattle.typed_records.specs.declared.types.Rec.{Rec}
 use Rattle.recovery_conflict.specs.declared.locks.Cause.{Cause}
 use Rattle.session_text.specs.Requests as request
 use Rattle.session_text.specs.Requests.{Request}

@@ -8,9 +8,9 @@ use Rattle.pg_types.specs.declared.names.Locator.{Locator}
 use Rattle.pg_types.specs.declared.names.Lsn.{Lsn}
 use Rattle.pg_types.specs.Locators.{same_locator}
 use Rattle.wal_record.specs.declared.types.RecordHead.{RecordHead}
-use Rattle.wal_bodies.specs.declared.types.Rec.{Rec}
-use Rattle.wal_bodies.specs.declared.types.RecKind.{RecKind}
-use Rattle.wal_bodies.specs.declared.types.RecKind.TheVariants.{Ended}
+use Rattle.typed_records.specs.declared.types.Rec.{Rec}
+use Rattle.typed_records.specs.declared.types.RecKind.{RecKind}
+use Rattle.typed_records.specs.declared.types.RecKind.TheVariants.{Ended}
 use Rattle.wal_bodies.specs.Typed.{is_commit}
 use Rattle.heap_redo.specs.Redone.{table_of}
 use Rattle.row_model.specs.Locks.{drops, drops_by, is_gone}

@@ -2,6 +2,7 @@ mod AtEnd
 mod Described
 mod Facts
 pub mod Fitting
+mod Forgotten
 mod Gone
 mod Locks
 mod GivenChanges

@@ -7,7 +7,7 @@ use Rattle.std.proofs.lemmas.Grind.{reverse_onto}
 use Rattle.pg_types.specs.declared.names.Locator.{Locator}
 use Rattle.pg_types.specs.declared.names.Lsn.{Lsn}
 use Rattle.record_fields.specs.declared.entries.LockEntry.{LockEntry}
-use Rattle.wal_bodies.specs.declared.types.Rec.{Rec}
+use Rattle.typed_records.specs.declared.types.Rec.{Rec}
 use Rattle.recovery_conflict.specs.declared.locks.HeldLock.{HeldLock as NodeLock}
 use Rattle.recovery_conflict.specs.Held.{entries_of, held_since as node_lock, is_of, keeps, last_of, locks_after}
 use Rattle.row_model.specs.Locks.{HeldLock, entries_in, held_since, locks, releases}

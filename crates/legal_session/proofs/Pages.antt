@@ -8,14 +8,13 @@ use Rattle.pg_types.specs.declared.status.Unknown.{Unknown}
 use Rattle.pg_types.specs.declared.names.Locator.{Locator}
 use Rattle.heap_tuple.specs.declared.cell.Column.{Column}
 use Rattle.heap_redo.specs.Redone.{table_of}
-use Rattle.wal_bodies.specs.declared.types.Rec.{Rec}
+use Rattle.typed_records.specs.declared.types.Rec.{Rec}
 use Rattle.page_store.specs.Seen.{Seen}
 use Rattle.seq_scan.specs.BlockRows.{BlockRows, Whole, block_rows, ends}
 use Rattle.seq_scan.specs.Scans.{has_more}
 use Rattle.standby_snapshot.specs.Snapshot.{SnapshotData, take_of}
 use Rattle.recovery_conflict.specs.declared.locks.Cause.{Cause}
 use Rattle.xact_redo.specs.Sees.{sees_by}
-use Rattle.xact_redo.specs.State.{TransactionState}
 use Rattle.row_model.specs.Versions.{Version}
 use Rattle.row_model.specs.Origins.{committed_in}
 use Rattle.row_model.specs.Multixacts.{multixacts}
@@ -23,7 +22,6 @@ use Rattle.row_model.specs.Locks.{is_gone}
 use Rattle.row_model.specs.RowSteps.{block_count, versions, view_after}
 use Rattle.row_model.specs.Rows.{IsRows, is_row}
 use Rattle.row_pages.specs.Pages.{rows_of_versions}
-use Rattle.row_visibility.specs.Sees.{state_along}
 use Rattle.table_schema.specs.Description.{Description, locators}
 use Rattle.table_schema.specs.Tables.{columns_of, file_of, table_with}
 use Rattle.standby_core.specs.Scans.{is_whole, moved_on, node_page, scan_with, without}
@@ -78,7 +76,7 @@ none_given given count n (inr less) same past = absurd (both_ways (nat_lt given 
 
 module _
     (laws : Laws) (w : World) (start : ℕ) (good : IsGood w start) (s : AbstractStandby) (node : Standby) (is : Represents w start node s)
-    (one : NodeScan) (scan : AbstractScan) (so : StandsForScan w s.life one scan) (uncancelled : scan.cause ≡ None) where
+    (one : NodeScan) (scan : AbstractScan) (so : StandsForScan w s.life node.transactions one scan) (uncancelled : scan.cause ≡ None) where
   abbrev file : Locator
   file = file_of w.tables scan.table
 
@@ -89,7 +87,7 @@ module _
   columns = columns_of w.tables scan.table
 
   abbrev sees : List ℕ → Result Bool Unknown
-  sees = sees_by (take_of (state_along scan.opened).known) (state_along (so.later ++ scan.opened))
+  sees = sees_by (take_of so.was.known) node.transactions
 
   stands_long : Stands w.told (described_in w.tables) start (so.later ++ scan.opened)
   stands_long = subst (λ (log : List Rec). Stands w.told (described_in w.tables) start log) so.opened is.stands
@@ -103,8 +101,6 @@ module _
       ap (λ (t : Description). page_at (columns_of t one.scan.table) (sees_by one.scan.snapshot node.transactions) (node.blocks one.scan.table) one.scan.given one.scan.blocks) is.tables
       ∙ ap (λ (table : ℕ). page_at (columns_of w.tables table) (sees_by one.scan.snapshot node.transactions) (node.blocks table) one.scan.given one.scan.blocks) so.table
       ∙ ap (λ (snapshot : SnapshotData). page_at columns (sees_by snapshot node.transactions) (node.blocks scan.table) one.scan.given one.scan.blocks) so.snapshot
-      ∙ ap (λ (t : TransactionState). page_at columns (sees_by (take_of (state_along scan.opened).known) t) (node.blocks scan.table) one.scan.given one.scan.blocks)
-      (is.transactions ∙ ap state_along so.opened)
       ∙ ap (λ (given : ℕ). page_at columns sees (node.blocks scan.table) given one.scan.blocks) so.given
       ∙ ap (λ (n : ℕ). page_at columns sees (node.blocks scan.table) scan.given n) so.blocks
 
@@ -114,10 +110,10 @@ module _
   page_by : (there : Bool) → nat_lt scan.given count ≡ there → GivesRows w scan (node_page node one.scan) (has_more one.scan)
   page_by true e =
       let (rows, are_rows, scanned) =
-      laws.keeps (log_origin w) (locators w.tables) so.later scan.opened node.blocks scan.table file columns scan.xmin so.described (begins_empty w)
+      laws.keeps (log_origin w) (locators w.tables) so.later scan.opened node.blocks scan.table file columns scan.xmin so.was node.transactions so.described (begins_empty w)
       (λ x. (refl, refl)) (legal_log laws.logs w start good (so.later ++ scan.opened) stands_long)
       (log_rises laws.logs w start good (so.later ++ scan.opened) stands_long) (log_fits laws.logs w start good (so.later ++ scan.opened) stands_long)
-      so.ready so.least so.there so.unlocked (so.free uncancelled)
+      so.along so.ready so.since so.least so.there so.unlocked (so.free uncancelled)
       (subst (λ (log : List Rec). view_after (log_origin w) (locators w.tables) log ≡ Ok node.blocks) so.opened is.blocks) in
       record {
         rows = rows;
@@ -150,20 +146,20 @@ module _ (laws : Laws) (w : World) (start : ℕ) (good : IsGood w start) (s : Ab
       (record s { scans = if on then given_block id s.scans else without_scan id s.scans })
   read_on one true e more =
       with_scans w start node s (moved_on id node.scans) (given_block id s.scans) is
-      (are_moved w s.life id node.scans s.scans
+      (are_moved w s.life node.transactions id node.scans s.scans
       (λ found f. subst (λ (o : NodeScan). has_more o.scan ≡ true) (one_open one found (sym e ∙ f)) (more refl)) is.scans)
   read_on one false e more =
-      with_scans w start node s (without id node.scans) (without_scan id s.scans) is (are_without w s.life id node.scans s.scans is.scans)
+      with_scans w start node s (without id node.scans) (without_scan id s.scans) is (are_without w s.life node.transactions id node.scans s.scans is.scans)
 
   reads_unless :
       (one : NodeScan) (scan : AbstractScan) (reply : Reply) (now : Standby) (cause : Option Cause) → scan_with id node.scans ≡ Some one
-      → StandsForScan w s.life one scan → scan.cause ≡ cause → NodeReads id cause one.scan node reply now
+      → StandsForScan w s.life node.transactions one scan → scan.cause ≡ cause → NodeReads id cause one.scan node reply now
       → LeadsTo w start (ReadsUnlessCancelled w id scan cause s reply) now
   reads_unless one scan reply now (Some cause) e so by (says, same) = (
     after_close id s,
     (says, refl),
     subst (λ (n : Standby). Represents w start n (after_close id s)) (sym same)
-        (with_scans w start node s (without id node.scans) (without_scan id s.scans) is (are_without w s.life id node.scans s.scans is.scans)),
+        (with_scans w start node s (without id node.scans) (without_scan id s.scans) is (are_without w s.life node.transactions id node.scans s.scans is.scans)),
   )
   reads_unless one scan reply now None e so by (says, same) =
       let page = node_page node one.scan in
@@ -186,7 +182,7 @@ module _ (laws : Laws) (w : World) (start : ℕ) (good : IsGood w start) (s : Ab
 
   reads_found :
       (one : Option NodeScan) (scan : Option AbstractScan) (reply : Reply) (now : Standby) → scan_with id node.scans ≡ one
-      → AreFound w s.life one scan → Reads id one node reply now → LeadsTo w start (ReadsScan w id scan s reply) now
+      → AreFound w s.life node.transactions one scan → Reads id one node reply now → LeadsTo w start (ReadsScan w id scan s reply) now
   reads_found None None reply now e are (says, same) =
       (s, (says, refl), subst (λ (n : Standby). Represents w start n s) (sym same) is)
   reads_found None (Some scan) reply now e are step = absurd are
@@ -197,4 +193,4 @@ module _ (laws : Laws) (w : World) (start : ℕ) (good : IsGood w start) (s : Ab
 
   pub reads_scan : (reply : Reply) (now : Standby) → NodeStep w.told.byte (Next id) node reply now → LeadsTo w start (Step w (Next id) s reply) now
   reads_scan reply now step =
-      reads_found (scan_with id node.scans) (scan_in id s.scans) reply now refl (are_found w s.life id node.scans s.scans is.scans) step
+      reads_found (scan_with id node.scans) (scan_in id s.scans) reply now refl (are_found w s.life node.transactions id node.scans s.scans is.scans) step

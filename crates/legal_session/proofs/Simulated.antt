@@ -6,7 +6,7 @@ use Rattle.pg_types.specs.declared.names.Locator.{Locator}
 use Rattle.page_store.specs.Seen.{absent}
 use Rattle.row_model.specs.RowSteps.{blocks_of, view_after, view_before}
 use Rattle.row_redo.specs.Shown.{BlocksShowVersions}
-use Rattle.row_visibility.specs.Sees.{StateAlong, XminAlong, state_along}
+use Rattle.row_visibility.specs.Sees.{NoneBelowXmin, StateAlong, XminAlong}
 use Rattle.record_numbers.specs.Laws.{ToldNumbersFit}
 use Rattle.kept_rows.specs.Kept.{KeepsRows}
 use Rattle.table_schema.specs.Description.{locators}
@@ -31,10 +31,10 @@ by_event laws w start text good described s node is (Open name) reply now step =
 by_event laws w start text good described s node is (Next id) reply now step = reads_scan laws w start good s node is id reply now step
 by_event laws w start text good described s node is (Close id) reply now step = closes_scan laws w start good s node is id reply now step
 
-pub node_simulates_holds : TablesAreApart → LogRises → ToldNumbersFit → BlocksShowVersions → StateAlong → XminAlong → KeepsRows → NodeSimulates
-node_simulates_holds apart all_rise fits shown along xmin keeps w start text sized tells described legal node s is event reply now step =
+pub node_simulates_holds : TablesAreApart → LogRises → ToldNumbersFit → BlocksShowVersions → StateAlong → XminAlong → NoneBelowXmin → KeepsRows → NodeSimulates
+node_simulates_holds apart all_rise fits shown along xmin none_below keeps w start text sized tells described legal node s is event reply now step =
     let logs : LogLaws = record { all_rise = all_rise; fits = fits; shown = shown } in
-    let laws : Laws = record { logs = logs; apart = apart; along = along; xmin = xmin; keeps = keeps } in
+    let laws : Laws = record { logs = logs; apart = apart; along = along; xmin = xmin; none_below = none_below; keeps = keeps } in
     by_event laws w start text (record { sized = sized; tells = tells; legal = legal }) described s node is event reply now step
 
 none_before : (w : World) (found : Option Locator) (block : ℕ) → blocks_of (log_origin w) found block ≡ absent
@@ -45,7 +45,7 @@ no_blocks : (w : World) → view_before (log_origin w) (locators w.tables) ≡ (
 no_blocks w = fun_ext (λ table. fun_ext (λ block. none_before w (slice_get (locators w.tables) table) block))
 
 pub begins_so_holds : BeginsSo
-unfolding at_origin state_along view_after locks_along gone_along
+unfolding at_origin view_after locks_along gone_along
 begins_so_holds tables origin byte top = record {
   begins = refl;
   stands = tt;

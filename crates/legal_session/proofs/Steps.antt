@@ -6,20 +6,20 @@ use Rattle.std.proofs.lemmas.List.Elements.{All-nil}
 use Rattle.pg_types.specs.declared.names.Lsn.{Lsn}
 use Rattle.wal_record.specs.declared.types.PrevRule.{PrevRule}
 use Rattle.wal_reader.specs.Told.{Told}
-use Rattle.wal_bodies.specs.declared.types.Rec.{Rec}
+use Rattle.typed_records.specs.declared.types.Rec.{Rec}
 use Rattle.heap_redo.specs.declared.fault.RedoFault.{RedoFault}
 use Rattle.heap_redo.specs.Redone.{redone_record, table_of}
 use Rattle.known_assigned.specs.declared.state.State.{State}
 use Rattle.known_assigned.specs.declared.state.State.TheVariants.{Ready}
 use Rattle.page_store.specs.Seen.{View}
 use Rattle.standby_snapshot.specs.Snapshot.{take_of}
-use Rattle.xact_redo.specs.State.{TransactionState, state_after}
+use Rattle.xact_redo.specs.State.{state_after}
 use Rattle.recovery_conflict.specs.declared.locks.HeldLock.{HeldLock as NodeLock}
 use Rattle.recovery_conflict.specs.Held.{last_of, locks_after}
 use Rattle.row_model.specs.Conflicts.{conflicts}
 use Rattle.row_model.specs.Locks.{HeldLock, is_gone, locks}
 use Rattle.row_model.specs.RowSteps.{block_count, view_after}
-use Rattle.row_visibility.specs.Sees.{state_along}
+use Rattle.row_visibility.specs.Sees.{NoneBelowXmin}
 use Rattle.table_schema.specs.Description.{Description, locators}
 use Rattle.table_schema.specs.Reading as schema
 use Rattle.table_schema.specs.Tables.{file_of, number_named}
@@ -28,6 +28,7 @@ use Rattle.standby_model.specs.Log.{Stop, next_of, record_at}
 use Rattle.standby_core.specs.declared.scans.NodeScan.{NodeScan}
 use Rattle.standby_core.specs.declared.scans.Opened.{Opened as OpenedBy}
 use Rattle.standby_core.specs.Conflicts.{cancelled_by, gone_after, oid_of}
+use Rattle.standby_core.specs.Horizon.{parents_kept}
 use Rattle.standby_core.specs.Replay.{awaited_after, refusal_of}
 use Rattle.standby_core.specs.Scans.{OpensAdmitted, OpensTable, OpensUnlessCrowded, OpensUnlessGone, OpensUnlessLocked, gone_since, is_admitted, is_crowded as is_node_crowded, is_ready, is_there, lock_of, most_scans, new_scan, scan_with, with_new_scan, without}
 use Rattle.standby_core.specs.Standby.{Standby, described_in, described_to, node_status, told_to}
@@ -37,6 +38,7 @@ use Rattle.legal_session.proofs.Described.{file_is_found}
 use Rattle.legal_session.specs.AbstractStandby.{AbstractScan, AbstractStandby, IsLeastLive, Step, World, admits, after_close, after_record, gone_at, is_crowded, last_lock, log_origin, met, oid_with, opened, opened_unless, position_of, replayed, scan_in, state_in, status_in, with_scan, without_scan}
 use Rattle.legal_session.specs.Represents.{Represents, StandForScans, StandsForScan, gone_along, locks_along}
 use Rattle.legal_session.proofs.Facts.{IsGood, Laws, legal_log, one_count, redone_is, seen_there, table_shown}
+use Rattle.legal_session.proofs.Forgotten.{forgets}
 use Rattle.legal_session.proofs.Gone.{as_number, gone_is, not_gone}
 use Rattle.legal_session.proofs.Locks.{as_held, last_is, none_locked}
 use Rattle.legal_session.proofs.Scans.{are_found, are_without, both_found, later_scans, one_opened, same_count}
@@ -49,7 +51,7 @@ LeadsTo w start steps now = (next : AbstractStandby) × steps next × Represents
 -- with other scans
 pub with_scans :
     (w : World) (start : ℕ) (node : Standby) (s : AbstractStandby) (ones : List NodeScan) (scans : List AbstractScan)
-    → Represents w start node s → StandForScans w s.life ones scans
+    → Represents w start node s → StandForScans w s.life node.transactions ones scans
     → Represents w start (record node { scans = ones }) (record s { scans = scans })
 with_scans w start node s ones scans is all = record {
   begins = is.begins;
@@ -73,35 +75,36 @@ status_so at min awaited state scans = record { at = at; min = min; awaited = aw
 
 -- where a record is applied the node stands for the standby that replayed it
 pub applied_is :
-    (w : World) (start : ℕ) (s : AbstractStandby) (node : Standby) (rec : Rec) (view : View) → Represents w start node s
+    NoneBelowXmin → (w : World) (start : ℕ) (s : AbstractStandby) (node : Standby) (rec : Rec) (view : View) → Represents w start node s
     → next_of w.told (described_in w.tables) start s.life ≡ Ok rec
     → view_after (log_origin w) (locators w.tables) (rec ∷ s.life) ≡ Ok view
     → Represents w start (applied rec view node) (after_record w rec s)
-unfolding state_along locks_along gone_along
-applied_is w start s node rec view is next redone = record {
-  begins = is.begins;
-  stands = (next, is.stands);
-  tables = is.tables;
-  told = is.told;
-  at = refl;
-  prev = refl;
-  min = is.min;
-  awaited = ap (λ (a : Option Lsn). awaited_after rec.kind a) is.awaited;
-  blocks = redone;
-  transactions = ap (λ (t : TransactionState). state_after rec t) is.transactions;
-  scans = subst (λ (t : Description). StandForScans w (rec ∷ s.life) (cancelled_by rec t node.scans) (map (met w rec) s.scans)) (sym is.tables)
-      (later_scans w rec s.life node.scans s.scans is.scans);
-  next_id = is.next_id;
-  held = ap (locks_after rec) is.held;
-  gone = ap (λ (t : Description). gone_after rec (locators t) node.gone) is.tables ∙ ap (gone_after rec (locators w.tables)) is.gone;
-}
+unfolding locks_along gone_along
+applied_is none w start s node rec view is next redone =
+    let kept = forgets none s.life rec node.scans node.transactions is.transactions in record {
+      begins = is.begins;
+      stands = (next, is.stands);
+      tables = is.tables;
+      told = is.told;
+      at = refl;
+      prev = refl;
+      min = is.min;
+      awaited = ap (λ (a : Option Lsn). awaited_after rec.kind a) is.awaited;
+      blocks = redone;
+      transactions = (node.transactions, kept.bound, is.transactions, kept.may, kept.same);
+      scans = subst (λ (t : Description). StandForScans w (rec ∷ s.life) (parents_kept rec node.scans (state_after rec node.transactions)) (cancelled_by rec t node.scans) (map (met w rec) s.scans)) (sym is.tables)
+          (later_scans w rec s.life node.transactions (parents_kept rec node.scans (state_after rec node.transactions)) kept.bound kept.may kept.same node.scans s.scans kept.below is.scans);
+      next_id = is.next_id;
+      held = ap (locks_after rec) is.held;
+      gone = ap (λ (t : Description). gone_after rec (locators t) node.gone) is.tables ∙ ap (gone_after rec (locators w.tables)) is.gone;
+    }
 
 module _ (laws : Laws) (w : World) (start : ℕ) (good : IsGood w start) (s : AbstractStandby) (node : Standby) (is : Represents w start node s) where
   -- what is known of running transactions
   mode_is : node.transactions.known.mode ≡ state_in s
   mode_is =
-      ap (λ (t : TransactionState). t.known.mode) is.transactions
-      ∙ laws.along (log_origin w).transactions s.life (legal_log laws.logs w start good s.life is.stands).transactions
+      laws.along (log_origin w).transactions s.life node.transactions
+      (legal_log laws.logs w start good s.life is.stands).transactions is.transactions
 
   pub status_is : status_by (node_status node) ≡ status_in s
   unfolding node_status
@@ -110,7 +113,7 @@ module _ (laws : Laws) (w : World) (start : ℕ) (good : IsGood w start) (s : Ab
       ∙ ap (λ (min : ℕ). status_so (position_of s) min (is_some node.awaited) node.transactions.known.mode (length node.scans)) is.min
       ∙ ap (λ (a : Option Lsn). status_so (position_of s) s.min (is_some a) node.transactions.known.mode (length node.scans)) is.awaited
       ∙ ap (λ (m : State). status_so (position_of s) s.min (is_some s.awaited) m (length node.scans)) mode_is
-      ∙ ap (λ (n : ℕ). status_so (position_of s) s.min (is_some s.awaited) (state_in s) n) (same_count w s.life node.scans s.scans is.scans)
+      ∙ ap (λ (n : ℕ). status_so (position_of s) s.min (is_some s.awaited) (state_in s) n) (same_count w s.life node.transactions node.scans s.scans is.scans)
 
   -- what stands at the node's position
   pub found_is :
@@ -147,7 +150,7 @@ module _ (laws : Laws) (w : World) (start : ℕ) (good : IsGood w start) (s : Ab
       let next : AbstractStandby = after_record w rec s in (
         next,
         ap (λ (r : Reply). (r, next)) says,
-        subst (λ (n : Standby). Represents w start n next) (sym same) (applied_is w start s node rec legal.view is e legal.redone),
+        subst (λ (n : Standby). Represents w start n next) (sym same) (applied_is laws.none_below w start s node rec legal.view is e legal.redone),
       )
 
   -- scans are admitted
@@ -160,22 +163,21 @@ module _ (laws : Laws) (w : World) (start : ℕ) (good : IsGood w start) (s : Ab
 
   crowded_is : is_node_crowded node ≡ is_crowded s
   crowded_is =
-      ap (λ (n : ℕ). nat_le most_scans n || nat_lt (2 ^ 63) node.next_id) (same_count w s.life node.scans s.scans is.scans)
+      ap (λ (n : ℕ). nat_le most_scans n || nat_lt (2 ^ 63) node.next_id) (same_count w s.life node.transactions node.scans s.scans is.scans)
       ∙ ap (λ (id : ℕ). nat_le most_scans (length s.scans) || nat_lt (2 ^ 63) id) is.next_id
 
   -- a scan that is opened
   abbrev snapshot_xmin : ℕ
-  snapshot_xmin = (take_of (state_along s.life).known).xmin
+  snapshot_xmin = (take_of node.transactions.known).xmin
 
-  ready_is : admits s ≡ true → (state_along s.life).known.mode ≡ Ready
-  ready_is admitted =
-      ap (λ (t : TransactionState). t.known.mode) (sym is.transactions) ∙ mode_is ∙ ready_when (state_in s) (and_parts _ _ admitted).1
+  ready_is : admits s ≡ true → node.transactions.known.mode ≡ Ready
+  ready_is admitted = mode_is ∙ ready_when (state_in s) (and_parts _ _ admitted).1
 
   -- its snapshot's xmin is the least live id
   least_is : admits s ≡ true → IsLeastLive w s snapshot_xmin
   least_is admitted =
-      laws.xmin (log_origin w).transactions s.life (λ x. (refl, refl))
-      (legal_log laws.logs w start good s.life is.stands).transactions (ready_is admitted)
+      laws.xmin (log_origin w).transactions s.life node.transactions (λ x. (refl, refl))
+      (legal_log laws.logs w start good s.life is.stands).transactions is.transactions (ready_is admitted)
 
   abbrev scan_now : ℕ → AbstractScan
   scan_now table = record { id = s.next_id; table = table; opened = s.life; xmin = snapshot_xmin; given = 0; cause = None }
@@ -184,7 +186,7 @@ module _ (laws : Laws) (w : World) (start : ℕ) (good : IsGood w start) (s : Ab
       (table count : ℕ) → table_of (locators w.tables) (file_of w.tables table) ≡ Some table → admits s ≡ true
       → is_gone (file_of w.tables table) s.life ≡ false → locks (log_origin w) (file_of w.tables table) s.life ≡ []
       → ((block : ℕ) → is_there (node.blocks table block) ≡ nat_lt block count)
-      → StandsForScan w s.life (new_scan table count node) (scan_now table)
+      → StandsForScan w s.life node.transactions (new_scan table count node) (scan_now table)
   new_is table count described admitted there unlocked has =
       let o = log_origin w in
       let file = file_of w.tables table in
@@ -195,9 +197,12 @@ module _ (laws : Laws) (w : World) (start : ℕ) (good : IsGood w start) (s : Ab
         described = described;
         later = [];
         opened = refl;
+        was = node.transactions;
+        along = is.transactions;
         ready = ready_is admitted;
-        snapshot = ap (λ (t : TransactionState). take_of t.known) is.transactions;
-        xmin = ap (λ (t : TransactionState). (take_of t.known).xmin) is.transactions;
+        snapshot = refl;
+        since = refl;
+        xmin = refl;
         least = least_is admitted;
         there = there;
         unlocked = unlocked;
@@ -211,7 +216,7 @@ module _ (laws : Laws) (w : World) (start : ℕ) (good : IsGood w start) (s : Ab
       }
 
   opened_is :
-      (table count : ℕ) → StandsForScan w s.life (new_scan table count node) (scan_now table)
+      (table count : ℕ) → StandsForScan w s.life node.transactions (new_scan table count node) (scan_now table)
       → Represents w start (with_new_scan table count node) (with_scan table snapshot_xmin s)
   opened_is table count new = record {
     begins = is.begins;
@@ -224,7 +229,7 @@ module _ (laws : Laws) (w : World) (start : ℕ) (good : IsGood w start) (s : Ab
     awaited = is.awaited;
     blocks = is.blocks;
     transactions = is.transactions;
-    scans = one_opened w s.life node.scans s.scans (new_scan table count node) (scan_now table) new is.scans;
+    scans = one_opened w s.life node.transactions node.scans s.scans (new_scan table count node) (scan_now table) new is.scans;
     next_id = ap (λ (id : ℕ). id + 1) is.next_id;
     held = is.held;
     gone = is.gone;
@@ -344,10 +349,10 @@ module _ (laws : Laws) (w : World) (start : ℕ) (good : IsGood w start) (s : Ab
   pub closes_scan :
       (id : ℕ) (reply : Reply) (now : Standby) → NodeStep w.told.byte (Close id) node reply now → LeadsTo w start (Step w (Close id) s reply) now
   closes_scan id reply now (says, same) =
-      let there = both_found w s.life id (scan_with id node.scans) (scan_in id s.scans) (are_found w s.life id node.scans s.scans is.scans) in (
+      let there = both_found w s.life node.transactions id (scan_with id node.scans) (scan_in id s.scans) (are_found w s.life node.transactions id node.scans s.scans is.scans) in (
         after_close id s,
         (says ∙ ap (λ (b : Bool). if b then Closed id else NoScan) there, refl),
         subst (λ (n : Standby). Represents w start n (after_close id s)) (sym same)
             (with_scans w start node s (without id node.scans) (without_scan id s.scans) is
-            (are_without w s.life id node.scans s.scans is.scans)),
+            (are_without w s.life node.transactions id node.scans s.scans is.scans)),
       )

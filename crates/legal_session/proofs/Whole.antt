@@ -7,7 +7,7 @@ use Rattle.pg_types.specs.declared.names.Locator.{Locator}
 use Rattle.heap_tuple.specs.Values.{RowRefusal, ToastedIn, BadIn, row_of}
 use Rattle.heap_tuple.specs.declared.cell.Cell.{Cell}
 use Rattle.heap_tuple.specs.declared.cell.Column.{Column}
-use Rattle.wal_bodies.specs.declared.types.Rec.{Rec}
+use Rattle.typed_records.specs.declared.types.Rec.{Rec}
 use Rattle.page_store.specs.Seen.{Seen}
 use Rattle.recovery_conflict.specs.declared.locks.Cause.{Cause}
 use Rattle.seq_scan.specs.BlockRows.{BlockEnd, BlockRows, Whole, ToastedAt, BadAt, UnknownAt, NoPage, ends, with_row, with_values}

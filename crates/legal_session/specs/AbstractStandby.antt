@@ -6,7 +6,7 @@ use Rattle.std.specs.Prelude.{◌≡◌, ℕ, ◌+◌, ◌^◌, ◌==◌, Bool, 
 use Rattle.pg_types.specs.declared.names.Lsn.{Lsn}
 use Rattle.pg_types.specs.declared.names.Locator.{Locator}
 use Rattle.wal_reader.specs.Told.{Told}
-use Rattle.wal_bodies.specs.declared.types.Rec.{Rec}
+use Rattle.typed_records.specs.declared.types.Rec.{Rec}
 use Rattle.wal_bodies.specs.Ends.{end_of}
 use Rattle.known_assigned.specs.declared.state.State.{State}
 use Rattle.table_schema.specs.Description.{Description, locators}

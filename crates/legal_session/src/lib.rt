@@ -20,6 +20,7 @@ pub fn node_simulates()
     row_redo::blocks_show_versions();
     row_visibility::state_along();
     row_visibility::xmin_along();
+    row_visibility::none_below_xmin();
     kept_rows::kept_rows();
 }
 
@@ -50,6 +51,7 @@ pub fn scans_give_rows()
     standby_model::log_rises();
     record_numbers::told_numbers_fit();
     row_redo::blocks_show_versions();
+    row_visibility::all_kept();
     row_visibility::state_along();
     row_visibility::sees_rows();
     row_pages::scan_gives_rows();

@@ -11,16 +11,18 @@ use Rattle.wal_record.specs.declared.types.RecordHead.{RecordHead}
 use Rattle.wal_record.specs.Parts.{number_from}
 use Rattle.wal_record.specs.Record.{Block, Image, Record, block_by_id}
 use Rattle.pg_types.specs.Bytes.{AreBytes}
-use Rattle.wal_bodies.specs.declared.types.NewTuple.{NewTuple}
-use Rattle.wal_bodies.specs.declared.types.RecBlock.{RecBlock}
-use Rattle.wal_bodies.specs.declared.types.RecKind.{RecKind}
-use Rattle.wal_bodies.specs.declared.types.RecKind.TheVariants.{Checkpoint, BackupEnd, Parameters, FullPageWrites, Images, Overwrite, Ended, Running, Insert, Delete, Update, Confirm, Lock, MultiInsert, LockUpdated, Prune, Vacuum, Freeze, Visible, Truncate, Locks, Other}
+use Rattle.typed_records.specs.declared.types.NewTuple.{NewTuple}
+use Rattle.typed_records.specs.declared.types.RecBlock.{RecBlock}
+use Rattle.typed_records.specs.declared.types.RecKind.{RecKind}
+use Rattle.typed_records.specs.declared.types.RecKind.TheVariants.{Checkpoint, BackupEnd, Parameters, FullPageWrites, Images, Overwrite, Ended, Assignment, Running, Insert, Delete, Update, Confirm, Lock, MultiInsert, LockUpdated, Prune, Vacuum, Freeze, Visible, Truncate, Locks, Other}
 use Rattle.wal_bodies.specs.Fields.{◌>>=◌, xid_at, lines_at, redirects_at, plans_at, if_main, main_block, needed, needed_number}
 use Rattle.record_fields.specs.Fields.{plan_count_at}
-use Rattle.wal_bodies.specs.Kinds.{backup_end, checkpoint, database_kind, ended, kind_of, count_from, later, locks, overwrite, page_writes, parameters, parts_by, running, standby_kind, storage_kind, time_from, xact_kind, xinfo_from, xlog_kind}
+use Rattle.wal_bodies.specs.Kinds.{assignment, backup_end, checkpoint, counted_xids, database_kind, ended, kind_of, count_from, later, locks, overwrite, page_writes, parameters, parts_by, running, standby_kind, storage_kind, time_from, xact_kind, xinfo_from, xlog_kind}
 use Rattle.wal_bodies.specs.HeapKinds.{by_block, confirm, delete, freeze, freeze_plans, freeze_with, heap2_kind, heap_kind, in_place, insert, lock, lock_updated, multi_insert, multi_insert_of, prune, prune_lists, prune_with, update, vacuum, vacuum_lines, vacuum_with, visible}
-use Rattle.wal_bodies.specs.Tuples.{in_data, insert_tuples, inserted, is_applied, length_from, listed_at, listed_from, even_from, multi_tuples, no_tuples, replaced, tuple_with, tuples_of, update_tuples, updated}
-use Rattle.wal_bodies.specs.Typed.{block_with, blocks_as, blocks_from, blocks_of, formed, ids_of, image_of, listed_block, read_as, typed}
+use Rattle.typed_records.specs.Tuples.{listed_at, listed_from, even_from, tuple_with}
+use Rattle.wal_bodies.specs.Tuples.{in_data, insert_tuples, inserted, is_applied, length_from, multi_tuples, no_tuples, replaced, tuples_of, update_tuples, updated}
+use Rattle.typed_records.specs.Blocks.{block_with, blocks_from, blocks_of, image_of, listed_block}
+use Rattle.wal_bodies.specs.Typed.{blocks_as, formed, ids_of, read_as, typed}
 use Rattle.wal_record.specs.OfBytes.{IsBlockOfBytes, IsOfBytes}
 use Rattle.record_numbers.specs.Fits.{BlockFits, ImageFits, KindFits, LineFits, PlanFits, RecordFits, RedirectFits, TupleFits}
 use Rattle.record_numbers.specs.Laws.{TypedFits}
@@ -91,6 +93,7 @@ plain-fits (FullPageWrites on) e = tt
 plain-fits Images e = tt
 plain-fits (Overwrite given_up time) e = tt
 plain-fits (Ended time xinfo xids files) e = tt
+plain-fits (Assignment top xids) e = tt
 plain-fits (Running tops subs overflow next oldest latest xids) e = tt
 plain-fits (Insert line flags) e = tt
 plain-fits (Delete xmax line bits flags) e = absurd (false≢true e)
@@ -155,9 +158,15 @@ unfolding ended
 ended-fits info main =
     free KindFits (time_from main) _ (λ time. free KindFits (xinfo_from info time.1) _ (λ xinfo. free KindFits (parts_by xinfo.0 xinfo.1) _ (λ parts. plain (Ended time.0 xinfo.0 parts.0 parts.1) refl)))
 
+assignment-fits : (main : List ℕ) → Has KindFits (assignment main)
+unfolding assignment
+assignment-fits main =
+    free KindFits (needed_number 4 main) _
+    (λ top. free KindFits (counted_xids top.1) _ (λ subs. plain (Assignment (record { 0 = top.0 }) subs.0) refl))
+
 xact-fits : (info : ℕ) (main : List ℕ) → Has KindFits (xact_kind info main)
 unfolding xact_kind
-xact-fits info main = search (either, refused, plain, ended-fits) depth 12
+xact-fits info main = search (either, refused, plain, ended-fits, assignment-fits) depth 12
 
 running-fits : (main : List ℕ) → Has KindFits (running main)
 unfolding running
@@ -473,6 +482,7 @@ tuples-fit (FullPageWrites on) source is = no-tuple
 tuples-fit Images source is = no-tuple
 tuples-fit (Overwrite given_up time) source is = no-tuple
 tuples-fit (Ended time xinfo xids files) source is = no-tuple
+tuples-fit (Assignment top xids) source is = no-tuple
 tuples-fit (Running tops subs overflow next oldest latest xids) source is = no-tuple
 tuples-fit (Insert line flags) source is = insert_tuples-fit source is
 tuples-fit (Delete xmax line bits flags) source is = no_tuples-fit source is
@@ -527,6 +537,7 @@ blocks_as-fit (FullPageWrites on) tuples source fit is = blocks-fit (ids_of (Ful
 blocks_as-fit Images tuples source fit is = blocks-fit (ids_of Images) tuples source fit is
 blocks_as-fit (Overwrite given_up time) tuples source fit is = blocks-fit (ids_of (Overwrite given_up time)) tuples source fit is
 blocks_as-fit (Ended time xinfo xids files) tuples source fit is = blocks-fit (ids_of (Ended time xinfo xids files)) tuples source fit is
+blocks_as-fit (Assignment top xids) tuples source fit is = blocks-fit (ids_of (Assignment top xids)) tuples source fit is
 blocks_as-fit (Running tops subs overflow next oldest latest xids) tuples source fit is = blocks-fit (ids_of (Running tops subs overflow next oldest latest xids)) tuples source fit is
 blocks_as-fit (Insert line flags) tuples source fit is = blocks-fit (ids_of (Insert line flags)) tuples source fit is
 blocks_as-fit (Delete xmax line bits flags) tuples source fit is = blocks-fit (ids_of (Delete xmax line bits flags)) tuples source fit is
@@ -553,6 +564,7 @@ none_named (FullPageWrites on) tuples source e = refl
 none_named Images tuples source e = absurd (suc-ne-zero 32 e)
 none_named (Overwrite given_up time) tuples source e = refl
 none_named (Ended time xinfo xids files) tuples source e = refl
+none_named (Assignment top xids) tuples source e = refl
 none_named (Running tops subs overflow next oldest latest xids) tuples source e = refl
 none_named (Insert line flags) tuples source e = absurd (suc-ne-zero 0 e)
 none_named (Delete xmax line bits flags) tuples source e = absurd (suc-ne-zero 0 e)

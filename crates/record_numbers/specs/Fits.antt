@@ -7,12 +7,12 @@ use Rattle.std.specs.Prelude.{◌≡◌, ℕ, ◌<◌, ◌^◌, List, [], All, O
 use Rattle.pg_types.specs.declared.names.Xid.{Xid}
 use Rattle.record_fields.specs.declared.entries.Redirect.{Redirect}
 use Rattle.record_fields.specs.declared.entries.FreezePlan.{FreezePlan}
-use Rattle.wal_bodies.specs.declared.types.RecImage.{RecImage}
-use Rattle.wal_bodies.specs.declared.types.NewTuple.{NewTuple}
-use Rattle.wal_bodies.specs.declared.types.RecBlock.{RecBlock}
-use Rattle.wal_bodies.specs.declared.types.Rec.{Rec}
-use Rattle.wal_bodies.specs.declared.types.RecKind.{RecKind}
-use Rattle.wal_bodies.specs.declared.types.RecKind.TheVariants.{Delete, Update, Lock, LockUpdated, Prune, Vacuum, Freeze, Visible, Truncate}
+use Rattle.typed_records.specs.declared.types.RecImage.{RecImage}
+use Rattle.typed_records.specs.declared.types.NewTuple.{NewTuple}
+use Rattle.typed_records.specs.declared.types.RecBlock.{RecBlock}
+use Rattle.typed_records.specs.declared.types.Rec.{Rec}
+use Rattle.typed_records.specs.declared.types.RecKind.{RecKind}
+use Rattle.typed_records.specs.declared.types.RecKind.TheVariants.{Delete, Update, Lock, LockUpdated, Prune, Vacuum, Freeze, Visible, Truncate}
 use Rattle.wal_bodies.specs.Typed.{ids_of}
 use Rattle.pg_types.specs.Bytes.{AreBytes}
 

@@ -9,7 +9,7 @@ use Rattle.wal_record.specs.Record.{Record}
 use Rattle.pg_types.specs.Bytes.{AreBytes}
 use Rattle.wal_reader.specs.Step.{Entry, step}
 use Rattle.wal_reader.specs.Told.{Told}
-use Rattle.wal_bodies.specs.declared.types.Rec.{Rec}
+use Rattle.typed_records.specs.declared.types.Rec.{Rec}
 use Rattle.wal_bodies.specs.Laws.{IsTyped}
 use Rattle.record_numbers.specs.Bytes.{TellsBytes}
 use Rattle.record_numbers.specs.Fits.{RecordFits}

@@ -6,10 +6,10 @@ use Rattle.std.specs.List.{list_any}
 use Rattle.pg_types.specs.declared.names.Lsn.{Lsn}
 use Rattle.pg_types.specs.declared.names.Xid.{Xid}
 use Rattle.record_fields.specs.declared.entries.LockEntry.{LockEntry}
-use Rattle.wal_bodies.specs.declared.types.RecBlock.{RecBlock}
-use Rattle.wal_bodies.specs.declared.types.Rec.{Rec}
-use Rattle.wal_bodies.specs.declared.types.RecKind.{RecKind}
-use Rattle.wal_bodies.specs.declared.types.RecKind.TheVariants.{Prune, Freeze, Visible}
+use Rattle.typed_records.specs.declared.types.RecBlock.{RecBlock}
+use Rattle.typed_records.specs.declared.types.Rec.{Rec}
+use Rattle.typed_records.specs.declared.types.RecKind.{RecKind}
+use Rattle.typed_records.specs.declared.types.RecKind.TheVariants.{Prune, Freeze, Visible}
 use Rattle.recovery_conflict.specs.declared.locks.Cause.{Cause}
 use Rattle.recovery_conflict.specs.declared.locks.Cause.TheVariants.{Horizon, Lock}
 use Rattle.recovery_conflict.specs.Held.{entries_of, is_of}

@@ -3,9 +3,9 @@
 use Rattle.std.specs.Prelude.{ℕ, Bool, not, ◌==◌, ◌&&◌, List, [], ◌∷◌, ◌++◌, map, filter, Option, Some, if◌then◌else◌}
 use Rattle.pg_types.specs.declared.names.Lsn.{Lsn}
 use Rattle.record_fields.specs.declared.entries.LockEntry.{LockEntry}
-use Rattle.wal_bodies.specs.declared.types.Rec.{Rec}
-use Rattle.wal_bodies.specs.declared.types.RecKind.{RecKind}
-use Rattle.wal_bodies.specs.declared.types.RecKind.TheVariants.{Locks}
+use Rattle.typed_records.specs.declared.types.Rec.{Rec}
+use Rattle.typed_records.specs.declared.types.RecKind.{RecKind}
+use Rattle.typed_records.specs.declared.types.RecKind.TheVariants.{Locks}
 use Rattle.transaction_model.specs.Transactions.{ends}
 use Rattle.xact_redo.specs.TransactionsOf.{kind_of}
 use Rattle.recovery_conflict.specs.declared.locks.HeldLock.{HeldLock}

@@ -1,7 +1,7 @@
 -- What holds of versions that the blocks of a table show.
 use Rattle.std.proofs.Common.{◌+◌, ◌≤◌, ◌<◌, ℕ, cond, List, ◌∷◌, arith}
 use Rattle.std.proofs.lemmas.List.Sums.{sum_by-cons}
-use Rattle.wal_bodies.specs.declared.types.Rec.{Rec}
+use Rattle.typed_records.specs.declared.types.Rec.{Rec}
 use Rattle.page_store.specs.Seen.{Seen, absent, bad_block, seen_page}
 use Rattle.row_model.specs.Origins.{LogOrigin}
 use Rattle.row_model.specs.Versions.{Version, is_at}

@@ -3,7 +3,7 @@
 -- (GetConflictingVirtualXIDs).
 use Rattle.std.specs.Prelude.{◌≡◌, ℕ, Bool, false, List, All, is_some}
 use Rattle.pg_types.specs.declared.names.Locator.{Locator}
-use Rattle.wal_bodies.specs.declared.types.Rec.{Rec}
+use Rattle.typed_records.specs.declared.types.Rec.{Rec}
 use Rattle.recovery_conflict.specs.Causes.{cause_of}
 use Rattle.row_model.specs.Origins.{LogOrigin}
 

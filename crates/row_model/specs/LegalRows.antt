@@ -5,12 +5,12 @@
 use Rattle.std.specs.Prelude.{◌≡◌, ◌≢◌, ◌⊎◌, ℕ, ◌<◌, Bool, true, false, ◌==◌, not, ◌&&◌, ◌||◌, nat_lt, List, [], ◌∷◌, All, Option, Some, None, Ok, if◌then◌else◌}
 use Rattle.std.specs.List.{list_all, list_any}
 use Rattle.pg_types.specs.declared.names.Locator.{Locator}
-use Rattle.wal_bodies.specs.declared.types.RecImage.{RecImage}
+use Rattle.typed_records.specs.declared.types.RecImage.{RecImage}
 use Rattle.wal_record.specs.declared.types.RecordHead.{RecordHead}
-use Rattle.wal_bodies.specs.declared.types.RecBlock.{RecBlock}
-use Rattle.wal_bodies.specs.declared.types.Rec.{Rec}
-use Rattle.wal_bodies.specs.declared.types.RecKind.{RecKind}
-use Rattle.wal_bodies.specs.declared.types.RecKind.TheVariants.{Checkpoint}
+use Rattle.typed_records.specs.declared.types.RecBlock.{RecBlock}
+use Rattle.typed_records.specs.declared.types.Rec.{Rec}
+use Rattle.typed_records.specs.declared.types.RecKind.{RecKind}
+use Rattle.typed_records.specs.declared.types.RecKind.TheVariants.{Checkpoint}
 use Rattle.heap_redo.specs.After.{applied}
 use Rattle.page_store.specs.Seen.{View}
 use Rattle.heap_redo.specs.Redone.{is_anew, is_left}

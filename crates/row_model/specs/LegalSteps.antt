@@ -5,9 +5,9 @@
 -- heap_prepare_freeze_tuple), pruneheap.c (heap_prune_chain), heapam_visibility.c (HeapTupleSatisfiesVacuum).
 use Rattle.std.specs.Prelude.{◌≡◌, ◌⊎◌, ℕ, ◌≤◌, Bool, true, false, List, [], ◌∷◌, Option, Some, None}
 use Rattle.pg_types.specs.declared.names.Locator.{Locator}
-use Rattle.wal_bodies.specs.declared.types.Rec.{Rec}
-use Rattle.wal_bodies.specs.declared.types.RecKind.{RecKind}
-use Rattle.wal_bodies.specs.declared.types.RecKind.TheVariants.{Prune, Freeze}
+use Rattle.typed_records.specs.declared.types.Rec.{Rec}
+use Rattle.typed_records.specs.declared.types.RecKind.{RecKind}
+use Rattle.typed_records.specs.declared.types.RecKind.TheVariants.{Prune, Freeze}
 use Rattle.heap_redo.specs.TupleHeads.{head_bytes, head_of}
 use Rattle.pg_types.specs.Numbers.{has_bits}
 use Rattle.heap_tuple.specs.Tuple.{xmin_of, infomask_of, max_of}

@@ -2,7 +2,7 @@
 -- Sources: xlogrecovery.c (InitWalRecovery), access/transam/README.
 use Rattle.std.specs.Prelude.{◌≡◌, ℕ, Bool, true, false, List, []}
 use Rattle.pg_types.specs.declared.names.Locator.{Locator}
-use Rattle.wal_bodies.specs.declared.types.Rec.{Rec}
+use Rattle.typed_records.specs.declared.types.Rec.{Rec}
 use Rattle.page_store.specs.Seen.{Seen, absent}
 use Rattle.transaction_model.specs.Transactions.{Live, committed, ended}
 use Rattle.transaction_model.specs.LegalTransactions.{TransactionOrigin}

@@ -1,7 +1,7 @@
 -- The prefixes of a legal log.
 use Rattle.std.specs.Prelude.{List, ◌∷◌}
 use Rattle.pg_types.specs.declared.names.Locator.{Locator}
-use Rattle.wal_bodies.specs.declared.types.Rec.{Rec}
+use Rattle.typed_records.specs.declared.types.Rec.{Rec}
 use Rattle.row_model.specs.Origins.{LogOrigin}
 use Rattle.row_model.specs.LegalRows.{LegalLog}
 

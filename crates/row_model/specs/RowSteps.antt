@@ -3,12 +3,12 @@
 -- XLogTruncateRelation).
 use Rattle.std.specs.Prelude.{ℕ, ◌+◌, ◌==◌, Bool, true, false, not, ◌&&◌, ◌||◌, nat_le, max, min, List, [], ◌∷◌, ◌++◌, map, slice_get, Option, Some, None, Result, Ok, Err, if◌then◌else◌}
 use Rattle.pg_types.specs.declared.names.Locator.{Locator}
-use Rattle.wal_bodies.specs.declared.types.RecImage.{RecImage}
-use Rattle.wal_bodies.specs.declared.types.NewTuple.{NewTuple}
-use Rattle.wal_bodies.specs.declared.types.RecBlock.{RecBlock}
-use Rattle.wal_bodies.specs.declared.types.Rec.{Rec}
-use Rattle.wal_bodies.specs.declared.types.RecKind.{RecKind}
-use Rattle.wal_bodies.specs.declared.types.RecKind.TheVariants.{Insert, Delete, Update, Lock, MultiInsert, LockUpdated, Prune, Vacuum, Freeze, Truncate}
+use Rattle.typed_records.specs.declared.types.RecImage.{RecImage}
+use Rattle.typed_records.specs.declared.types.NewTuple.{NewTuple}
+use Rattle.typed_records.specs.declared.types.RecBlock.{RecBlock}
+use Rattle.typed_records.specs.declared.types.Rec.{Rec}
+use Rattle.typed_records.specs.declared.types.RecKind.{RecKind}
+use Rattle.typed_records.specs.declared.types.RecKind.TheVariants.{Insert, Delete, Update, Lock, MultiInsert, LockUpdated, Prune, Vacuum, Freeze, Truncate}
 use Rattle.pg_types.specs.Numbers.{has_bits}
 use Rattle.heap_redo.specs.TupleHeads.{marked_mask}
 use Rattle.heap_redo.specs.After.{applied, joined, number_of, page_of_image, tuple_of, user_data}

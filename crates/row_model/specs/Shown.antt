@@ -2,7 +2,7 @@
 use Rattle.std.specs.Prelude.{◌≡◌, ℕ, ◌<◌, ◌≤◌, true, false, List, All, Some, None, sum_by, if◌then◌else◌}
 use Rattle.heap_tuple.specs.Tuple.{hoff_of}
 use Rattle.page_store.specs.Seen.{Seen, absent, bad_block, seen_page}
-use Rattle.wal_bodies.specs.declared.types.Rec.{Rec}
+use Rattle.typed_records.specs.declared.types.Rec.{Rec}
 use Rattle.row_model.specs.Versions.{Version, is_at, version_at}
 use Rattle.row_model.specs.Origins.{LogOrigin, committed_in}
 use Rattle.row_model.specs.Multixacts.{WasMade, multixacts}

@@ -6,7 +6,7 @@ use Rattle.heap_tuple.specs.Tuple.{xmin_of, infomask_of, columns_of, max_of}
 use Rattle.heap_tuple.specs.declared.tuple_view.MaxOf.{MaxOf}
 use Rattle.heap_page.specs.Item.{Item, normal, numbered, is_normal}
 use Rattle.tuple_visibility.specs.Visible.{xmin_marks}
-use Rattle.wal_bodies.specs.declared.types.Rec.{Rec}
+use Rattle.typed_records.specs.declared.types.Rec.{Rec}
 use Rattle.row_model.specs.Versions.{Version, Inserter, Nobody, Always, By, is_frozen, version_at}
 use Rattle.row_model.specs.Origins.{LogOrigin, HasFailed, committed_in}
 use Rattle.row_model.specs.Multixacts.{deleter_in}

@@ -6,7 +6,7 @@ use Rattle.heap_tuple.specs.Tuple.{hoff_of}
 use Rattle.heap_tuple.specs.declared.cell.Column.{Column}
 use Rattle.heap_page.specs.Item.{Item, is_normal, numbered}
 use Rattle.page_store.specs.Seen.{Seen, absent, bad_block, seen_page}
-use Rattle.wal_bodies.specs.declared.types.Rec.{Rec}
+use Rattle.typed_records.specs.declared.types.Rec.{Rec}
 use Rattle.row_model.specs.Origins.{LogOrigin, committed_in}
 use Rattle.row_model.specs.Versions.{Version, version_at}
 use Rattle.row_model.specs.Multixacts.{multixacts}

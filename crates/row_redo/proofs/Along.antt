@@ -5,8 +5,8 @@ use Rattle.std.proofs.lemmas.List.Elements.{All-head, All-tail}
 use Rattle.std.specs.Prelude.{slice_get}
 use Rattle.pg_types.specs.declared.names.Locator.{Locator}
 use Rattle.heap_page.specs.Law.{TuplesKeepRule, ZerosHaveNone}
-use Rattle.wal_bodies.specs.declared.types.Rec.{Rec}
-use Rattle.wal_bodies.specs.declared.types.RecBlock.{RecBlock}
+use Rattle.typed_records.specs.declared.types.Rec.{Rec}
+use Rattle.typed_records.specs.declared.types.RecBlock.{RecBlock}
 use Rattle.heap_redo.specs.declared.fault.RedoFault.{RedoFault}
 use Rattle.page_store.specs.Seen.{Seen, absent, View}
 use Rattle.heap_redo.specs.Redone.{Outcome, cut_by, redone, redone_record, redone_unless, table_of, view_outcome}

@@ -7,12 +7,12 @@ use Rattle.heap_page.specs.Item.{Item, unused, normal, redirect, dead, numbered,
 use Rattle.record_fields.specs.declared.entries.Redirect.{Redirect}
 use Rattle.record_fields.specs.declared.entries.FreezePlan as listed
 use Rattle.row_model.specs.Origins.{LogOrigin}
-use Rattle.wal_bodies.specs.declared.types.RecImage.{RecImage}
-use Rattle.wal_bodies.specs.declared.types.NewTuple.{NewTuple}
-use Rattle.wal_bodies.specs.declared.types.RecBlock.{RecBlock}
-use Rattle.wal_bodies.specs.declared.types.Rec.{Rec}
-use Rattle.wal_bodies.specs.declared.types.RecKind.{RecKind}
-use Rattle.wal_bodies.specs.declared.types.RecKind.TheVariants.{Checkpoint, BackupEnd, Parameters, FullPageWrites, Images, Overwrite, Ended, Running, Insert, Delete, Update, Confirm, Lock, MultiInsert, LockUpdated, Prune, Vacuum, Freeze, Visible, Truncate, Locks, Other}
+use Rattle.typed_records.specs.declared.types.RecImage.{RecImage}
+use Rattle.typed_records.specs.declared.types.NewTuple.{NewTuple}
+use Rattle.typed_records.specs.declared.types.RecBlock.{RecBlock}
+use Rattle.typed_records.specs.declared.types.Rec.{Rec}
+use Rattle.typed_records.specs.declared.types.RecKind.{RecKind}
+use Rattle.typed_records.specs.declared.types.RecKind.TheVariants.{Checkpoint, BackupEnd, Parameters, FullPageWrites, Images, Overwrite, Ended, Assignment, Running, Insert, Delete, Update, Confirm, Lock, MultiInsert, LockUpdated, Prune, Vacuum, Freeze, Visible, Truncate, Locks, Other}
 use Rattle.pg_types.specs.Numbers.{has_bits}
 use Rattle.heap_redo.specs.TupleHeads.{Head, marked, deleted, replaced, locked, frozen}
 use Rattle.heap_redo.specs.After.{BlockRefusal, no_tuple, ◌>>=◌, applied, put, put_listed, put_version, change_head, tuple_of, joined, user_data, is_short, update_old, update_within, update, number_of, changed, new_head, set_line, set_lines, redirect_line, redirect_lines, prune, freeze_lines, freeze}
@@ -360,6 +360,7 @@ module _ (from : LogOrigin) (log : List Rec) (vs : List Version) (rec : Rec) (bl
   kind-shown Images f rule e = subst (Shown from log vs block.block) (cc) shown
   kind-shown (Overwrite given_up time) f rule e = subst (Shown from log vs block.block) (cc) shown
   kind-shown (Ended time xinfo xids files) f rule e = subst (Shown from log vs block.block) (cc) shown
+  kind-shown (Assignment top xids) f rule e = subst (Shown from log vs block.block) (cc) shown
   kind-shown (Running tops subs overflow next oldest latest xids) f rule e = subst (Shown from log vs block.block) (cc) shown
   kind-shown (Prune horizon catalogue redirected died freed) f rule e =
       along from log vs block.block after (removals block.block (applied block.image) (pruned_lines redirected died freed) vs)

@@ -5,9 +5,9 @@ use Rattle.std.specs.List.{list_any}
 use Rattle.std.proofs.lemmas.Bool.{and_left, and_right, and_from, and_parts, cases_lt, eq-eqb, eqb-true, le-leb, lt-leb, ne_eqb, or_parts}
 use Rattle.std.proofs.lemmas.List.Elements.{All-head, All-tail}
 use Rattle.pg_types.specs.declared.names.Locator.{Locator}
-use Rattle.wal_bodies.specs.declared.types.Rec.{Rec}
-use Rattle.wal_bodies.specs.declared.types.RecKind.{RecKind}
-use Rattle.wal_bodies.specs.declared.types.RecKind.TheVariants.{Checkpoint, BackupEnd, Parameters, FullPageWrites, Images, Overwrite, Ended, Running, Insert, Delete, Update, Confirm, Lock, MultiInsert, LockUpdated, Prune, Vacuum, Freeze, Visible, Truncate, Locks, Other}
+use Rattle.typed_records.specs.declared.types.Rec.{Rec}
+use Rattle.typed_records.specs.declared.types.RecKind.{RecKind}
+use Rattle.typed_records.specs.declared.types.RecKind.TheVariants.{Checkpoint, BackupEnd, Parameters, FullPageWrites, Images, Overwrite, Ended, Assignment, Running, Insert, Delete, Update, Confirm, Lock, MultiInsert, LockUpdated, Prune, Vacuum, Freeze, Visible, Truncate, Locks, Other}
 use Rattle.pg_types.specs.Locators.{same_locator}
 use Rattle.wal_bodies.specs.Typed.{ids_of, is_commit}
 use Rattle.page_store.specs.Seen.{Seen, absent, bad_block, seen_page, View}
@@ -156,6 +156,7 @@ module _ (known : List Locator) (locator : Locator) (table : ℕ) (here : table_
   by_cut from log rec view (FullPageWrites on) kept = inl (uncut rec view _ refl (λ n. refl))
   by_cut from log rec view Images kept = inl (uncut rec view _ refl (λ n. refl))
   by_cut from log rec view (Overwrite given_up time) kept = inl (uncut rec view _ refl (λ n. refl))
+  by_cut from log rec view (Assignment top xids) kept = inl (uncut rec view _ refl (λ n. refl))
   by_cut from log rec view (Running tops subs overflow next oldest latest xids) kept = inl (uncut rec view _ refl (λ n. refl))
   by_cut from log rec view (Insert line flags) kept = inl (uncut rec view _ refl (λ n. refl))
   by_cut from log rec view (Delete xmax line bits flags) kept = inl (uncut rec view _ refl (λ n. refl))

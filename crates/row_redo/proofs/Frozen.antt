@@ -4,7 +4,7 @@ use Rattle.std.proofs.lemmas.List.Elements.{All-drop}
 use Rattle.heap_tuple.specs.Tuple.{IsTuple, xmin_of, xmax_of, infomask2_of, infomask_of, is_lock_only, max_of}
 use Rattle.heap_page.specs.Put.{with_head}
 use Rattle.tuple_visibility.specs.Visible.{xmin_marks}
-use Rattle.wal_bodies.specs.declared.types.Rec.{Rec}
+use Rattle.typed_records.specs.declared.types.Rec.{Rec}
 use Rattle.pg_types.specs.Numbers.{has_bits}
 use Rattle.heap_redo.specs.TupleHeads.{head_of, head_bytes, frozen}
 use Rattle.row_model.specs.Origins.{LogOrigin}

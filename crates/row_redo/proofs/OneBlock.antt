@@ -4,11 +4,11 @@ use Rattle.std.proofs.lemmas.Bool.{and_right, or_right, lt-leb, false≢true, bo
 use Rattle.heap_page.specs.Item.{Item, unused, is_normal, numbered}
 use Rattle.heap_page.specs.Page.{is_page}
 use Rattle.heap_page.specs.Law.{TuplesKeepRule}
-use Rattle.wal_bodies.specs.declared.types.RecImage.{RecImage}
-use Rattle.wal_bodies.specs.declared.types.RecBlock.{RecBlock}
-use Rattle.wal_bodies.specs.declared.types.Rec.{Rec}
-use Rattle.wal_bodies.specs.declared.types.RecKind.{RecKind}
-use Rattle.wal_bodies.specs.declared.types.RecKind.TheVariants.{Checkpoint, BackupEnd, Parameters, FullPageWrites, Images, Overwrite, Ended, Running, Insert, Delete, Update, Confirm, Lock, MultiInsert, LockUpdated, Prune, Vacuum, Freeze, Visible, Truncate, Locks, Other}
+use Rattle.typed_records.specs.declared.types.RecImage.{RecImage}
+use Rattle.typed_records.specs.declared.types.RecBlock.{RecBlock}
+use Rattle.typed_records.specs.declared.types.Rec.{Rec}
+use Rattle.typed_records.specs.declared.types.RecKind.{RecKind}
+use Rattle.typed_records.specs.declared.types.RecKind.TheVariants.{Checkpoint, BackupEnd, Parameters, FullPageWrites, Images, Overwrite, Ended, Assignment, Running, Insert, Delete, Update, Confirm, Lock, MultiInsert, LockUpdated, Prune, Vacuum, Freeze, Visible, Truncate, Locks, Other}
 use Rattle.heap_redo.specs.After.{BlockRefusal, no_page, bad_page, Content, page, page_of_image, after_restore, applied, is_images, made_anew, paged, changed, changed_page, after_change, after_image, after}
 use Rattle.page_store.specs.Seen.{Seen, absent, bad_block, seen_page}
 use Rattle.heap_redo.specs.Redone.{content_of, stamped, is_anew, is_left, has_reached, left_by, redone_block}
@@ -43,6 +43,7 @@ own_none rec block (Parameters connections processes senders prepared locks leve
 own_none rec block (FullPageWrites on) vs h = absurd (false≢true h)
 own_none rec block (Overwrite given_up time) vs h = absurd (false≢true h)
 own_none rec block (Ended time xinfo xids files) vs h = absurd (false≢true h)
+own_none rec block (Assignment top xids) vs h = absurd (false≢true h)
 own_none rec block (Running tops subs overflow next oldest latest xids) vs h = absurd (false≢true h)
 own_none rec block (Insert line flags) vs h = absurd (false≢true h)
 own_none rec block (Delete xmax line bits flags) vs h = absurd (false≢true h)

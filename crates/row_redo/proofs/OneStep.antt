@@ -4,7 +4,7 @@ use Rattle.std.proofs.lemmas.Bool.{cases_eq, eqb-true, false≢true}
 use Rattle.heap_tuple.specs.Tuple.{IsTuple, xmin_of, max_of}
 use Rattle.heap_page.specs.Item.{Item, normal, numbered, is_normal}
 use Rattle.tuple_visibility.specs.Visible.{xmin_marks}
-use Rattle.wal_bodies.specs.declared.types.Rec.{Rec}
+use Rattle.typed_records.specs.declared.types.Rec.{Rec}
 use Rattle.row_model.specs.Origins.{LogOrigin}
 use Rattle.pg_types.specs.Numbers.{has_bits}
 use Rattle.heap_redo.specs.TupleHeads.{Head, head_of, pointing_to, deleted, frozen}

@@ -1,11 +1,11 @@
 -- The steps of a record in one of its blocks are made in that block.
 use Rattle.std.proofs.Common.{ℕ, ◌+◌, Bool, true, false, not, ◌&&◌, ◌==◌, cond, nat_le, List, [], ◌∷◌, map, Option, Some, None, refl}
-use Rattle.wal_bodies.specs.declared.types.RecImage.{RecImage}
-use Rattle.wal_bodies.specs.declared.types.NewTuple.{NewTuple}
-use Rattle.wal_bodies.specs.declared.types.RecBlock.{RecBlock}
-use Rattle.wal_bodies.specs.declared.types.Rec.{Rec}
-use Rattle.wal_bodies.specs.declared.types.RecKind.{RecKind}
-use Rattle.wal_bodies.specs.declared.types.RecKind.TheVariants.{Checkpoint, BackupEnd, Parameters, FullPageWrites, Images, Overwrite, Ended, Running, Insert, Delete, Update, Confirm, Lock, MultiInsert, LockUpdated, Prune, Vacuum, Freeze, Visible, Truncate, Locks, Other}
+use Rattle.typed_records.specs.declared.types.RecImage.{RecImage}
+use Rattle.typed_records.specs.declared.types.NewTuple.{NewTuple}
+use Rattle.typed_records.specs.declared.types.RecBlock.{RecBlock}
+use Rattle.typed_records.specs.declared.types.Rec.{Rec}
+use Rattle.typed_records.specs.declared.types.RecKind.{RecKind}
+use Rattle.typed_records.specs.declared.types.RecKind.TheVariants.{Checkpoint, BackupEnd, Parameters, FullPageWrites, Images, Overwrite, Ended, Assignment, Running, Insert, Delete, Update, Confirm, Lock, MultiInsert, LockUpdated, Prune, Vacuum, Freeze, Visible, Truncate, Locks, Other}
 use Rattle.pg_types.specs.Numbers.{has_bits}
 use Rattle.heap_redo.specs.After.{applied, number_of}
 use Rattle.heap_page.specs.Item.{Item, unused, normal, redirect, dead, is_normal, numbered, tuple_in}
@@ -125,6 +125,7 @@ own_in rec block (FullPageWrites on) vs = tt
 own_in rec block Images vs = tt
 own_in rec block (Overwrite given_up time) vs = tt
 own_in rec block (Ended time xinfo xids files) vs = tt
+own_in rec block (Assignment top xids) vs = tt
 own_in rec block (Running tops subs overflow next oldest latest xids) vs = tt
 own_in rec block (Confirm line) vs = tt
 own_in rec block (Prune horizon catalogue redirected died freed) vs =

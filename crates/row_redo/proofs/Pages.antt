@@ -10,7 +10,7 @@ use Rattle.heap_page.specs.Page.{lsn_of, items_of, lines_of, line_count, item_of
 use Rattle.heap_page.specs.Put.{restored}
 use Rattle.heap_page.specs.Law.{TuplesKeepRule, ZerosHaveNone}
 use Rattle.page_store.specs.Content.{zeros}
-use Rattle.wal_bodies.specs.declared.types.RecImage.{RecImage}
+use Rattle.typed_records.specs.declared.types.RecImage.{RecImage}
 use Rattle.heap_redo.specs.After.{page_of_image}
 use Rattle.page_store.specs.Seen.{seen, seen_page, bad_block}
 use Rattle.row_model.specs.RowSteps.{items_in}

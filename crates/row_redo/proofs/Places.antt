@@ -1,7 +1,7 @@
 -- Which versions stand at a place once steps were made.
 use Rattle.std.proofs.Common.{◌≡◌, ℕ, Bool, true, false, ◌&&◌, ◌==◌, cond, List, [], ◌∷◌, ◌++◌, Option, Some, None, refl, sym, ap, ◌∙◌, subst}
 use Rattle.std.proofs.lemmas.Bool.{and_parts, and_left, eqb-true, ne_eqb, false_from_ne_true, false≢true}
-use Rattle.wal_bodies.specs.declared.types.Rec.{Rec}
+use Rattle.typed_records.specs.declared.types.Rec.{Rec}
 use Rattle.row_model.specs.Origins.{LogOrigin}
 use Rattle.row_model.specs.Versions.{Version, RowStep, Born, Deleter, Undone, Removed, Frozen, deleter_of_plan, frozen_by, removed, taken_back, version_born, is_at, version_at, changed_at, with_deleter, with_step, with_steps}
 use Rattle.row_model.specs.LegalSteps.{IfVersion, MayBeRemoved, MayFollow, MayUndo, PlanRule}

@@ -1,7 +1,7 @@
 -- The rules of the legal log for one step of a record, taken together.
 use Rattle.std.proofs.Common.{ℕ, List, [], ◌∷◌}
 use Rattle.pg_types.specs.declared.names.Locator.{Locator}
-use Rattle.wal_bodies.specs.declared.types.Rec.{Rec}
+use Rattle.typed_records.specs.declared.types.Rec.{Rec}
 use Rattle.row_model.specs.Versions.{Version, RowStep, with_step}
 use Rattle.row_model.specs.Origins.{LogOrigin}
 use Rattle.row_model.specs.LegalSteps.{BirthStep, DeleterStep, EachStep, MultixactStep, RemovalStep}

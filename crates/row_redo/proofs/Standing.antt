@@ -3,7 +3,7 @@ use Rattle.std.proofs.Common.{◌≡◌, ℕ, ◌<◌, ◌≤◌, List, ◌∷�
 use Rattle.heap_tuple.specs.Tuple.{IsTuple, hoff_of}
 use Rattle.heap_page.specs.Item.{Item, normal, numbered}
 use Rattle.page_store.specs.Seen.{Seen, absent, bad_block, seen_page}
-use Rattle.wal_bodies.specs.declared.types.Rec.{Rec}
+use Rattle.typed_records.specs.declared.types.Rec.{Rec}
 use Rattle.row_model.specs.Origins.{LogOrigin}
 use Rattle.transaction_model.specs.LegalTransactions.{Legal}
 use Rattle.xact_redo.specs.TransactionsOf.{transactions_of}

@@ -3,8 +3,8 @@ use Rattle.std.proofs.Common.{◌≡◌, ◌≢◌, ℕ, ◌<◌, Bool, true, fa
 use Rattle.std.proofs.lemmas.Bool.{and_left, and_right, and_from, ne_eqb, eq-eqb, lt-ltb, le-ltb}
 use Rattle.pg_types.specs.declared.names.Tag.{Tag}
 use Rattle.page_store.specs.Content.{is_at}
-use Rattle.wal_bodies.specs.declared.types.RecBlock.{RecBlock}
-use Rattle.wal_bodies.specs.declared.types.Rec.{Rec}
+use Rattle.typed_records.specs.declared.types.RecBlock.{RecBlock}
+use Rattle.typed_records.specs.declared.types.Rec.{Rec}
 use Rattle.page_store.specs.Seen.{Seen, View}
 use Rattle.heap_redo.specs.Redone.{is_anew, is_left, with_seen, or_zero_block, grown, view_with}
 use Rattle.page_store.proofs.Blocks.{at-other_block}

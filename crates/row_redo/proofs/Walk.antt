@@ -6,8 +6,8 @@ use Rattle.std.proofs.lemmas.List.Elements.{All-head, All-tail}
 use Rattle.pg_types.specs.declared.names.Locator.{Locator}
 use Rattle.pg_types.specs.declared.names.Tag.{Tag}
 use Rattle.heap_page.specs.Law.{TuplesKeepRule, ZerosHaveNone}
-use Rattle.wal_bodies.specs.declared.types.RecBlock.{RecBlock}
-use Rattle.wal_bodies.specs.declared.types.Rec.{Rec}
+use Rattle.typed_records.specs.declared.types.RecBlock.{RecBlock}
+use Rattle.typed_records.specs.declared.types.Rec.{Rec}
 use Rattle.heap_redo.specs.After.{BlockRefusal, applied}
 use Rattle.heap_redo.specs.declared.fault.RedoFault.{RedoFault}
 use Rattle.page_store.specs.Seen.{Seen, absent, bad_block, seen_page, View}

@@ -1,7 +1,7 @@
 -- What the blocks of a table show of its rows after a log was replayed.
 use Rattle.std.specs.Prelude.{◌≡◌, ℕ, false, List, All, Some, Ok}
 use Rattle.pg_types.specs.declared.names.Locator.{Locator}
-use Rattle.wal_bodies.specs.declared.types.Rec.{Rec}
+use Rattle.typed_records.specs.declared.types.Rec.{Rec}
 use Rattle.page_store.specs.Seen.{View}
 use Rattle.heap_redo.specs.Redone.{table_of}
 use Rattle.row_model.specs.Locks.{is_gone}

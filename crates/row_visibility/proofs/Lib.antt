@@ -1,4 +1,5 @@
 mod Along
+pub mod Forgetting
 mod Statuses
 mod Visible
 mod WorkedSight

@@ -6,20 +6,20 @@ use Rattle.pg_types.specs.declared.names.Xid.{Xid}
 use Rattle.pg_types.specs.declared.status.Status.{Status}
 use Rattle.pg_types.specs.declared.status.Status.TheVariants.{None as Unset, Committed, Aborted}
 use Rattle.wal_record.specs.declared.types.RecordHead.{RecordHead}
-use Rattle.wal_bodies.specs.declared.types.Rec.{Rec}
-use Rattle.wal_bodies.specs.declared.types.RecKind.{RecKind}
-use Rattle.wal_bodies.specs.declared.types.RecKind.TheVariants.{Checkpoint, Ended}
+use Rattle.typed_records.specs.declared.types.Rec.{Rec}
+use Rattle.typed_records.specs.declared.types.RecKind.{RecKind}
+use Rattle.typed_records.specs.declared.types.RecKind.TheVariants.{Checkpoint, Ended}
 use Rattle.commit_log.specs.Log.{initial_status, is_named, status_after}
 use Rattle.known_assigned.specs.Ids.{is_among, numbers}
 use Rattle.tuple_visibility.specs.Visible.{is_committed}
-use Rattle.xact_redo.specs.State.{before_records, has_ended, outcome_of, state_after, statuses_after}
+use Rattle.xact_redo.specs.State.{TransactionState, before_records, forgetting, has_ended, outcome_of, state_after, statuses_after}
 use Rattle.transaction_model.specs.Transactions.{Kind, Commit, Abort, Shutdown, Online, TransactionRecord, Statuses, commits, finishes, ends, committed, finished, ended}
 use Rattle.transaction_model.specs.LegalTransactions.{Legal, NamesLive, TransactionOrigin, RuleOf}
 use Rattle.transaction_model.specs.StandbyStates.{shown}
 use Rattle.transaction_model.specs.TransactionLaws.{IsCaughtUp, ShowsFinished}
 use Rattle.transaction_model.proofs.Endings.{legal_rest, live_not_committed, origin_rule, rule_of}
 use Rattle.xact_redo.specs.TransactionsOf.{is_commit, at_shutdown, kind_of, transaction_of, transactions_of}
-use Rattle.row_visibility.specs.Sees.{HasNoStatuses, state_along}
+use Rattle.row_visibility.specs.Sees.{HasNoStatuses, IsAlong}
 
 -- what the commit log shows ended before the first record
 abbrev pub first : ℕ → Bool
@@ -129,15 +129,16 @@ committed_after o head _ before older now rule x same = refl
 
 -- the commit log shows ended what the records finished
 pub ended_along :
-    (o : TransactionOrigin) (log : List Rec) → Legal o (transactions_of log) → (x : ℕ)
-    → has_ended ((state_along log).statuses x) ≡ shown first (transactions_of log) x
-unfolding state_along state_after before_records transaction_of shown
-ended_along o [] legal x = refl
-ended_along o (r ∷ older) legal x =
-    ended_after o r.head r.kind (state_along older).statuses (transactions_of older) (transactions_of (r ∷ older))
+    (o : TransactionOrigin) (log : List Rec) (state : TransactionState) → Legal o (transactions_of log) → IsAlong log state
+    → (x : ℕ) → has_ended (state.statuses x) ≡ shown first (transactions_of log) x
+unfolding state_after before_records forgetting transaction_of shown
+ended_along o [] state legal is x = ap (λ (s : TransactionState). has_ended (s.statuses x)) is
+ended_along o (r ∷ older) state legal (was, bound, along, free, is) x =
+    ap (λ (s : TransactionState). has_ended (s.statuses x)) is
+    ∙ ended_after o r.head r.kind was.statuses (transactions_of older) (transactions_of (r ∷ older))
     (rule_of o (transaction_of r) (transactions_of older) legal) x
     ∙ ap (λ (t : Bool). finishes x r.head.xid.0 (kind_of r.head r.kind) || t)
-    (ended_along o older (legal_rest o (transaction_of r) (transactions_of older) legal) x)
+    (ended_along o older was (legal_rest o (transaction_of r) (transactions_of older) legal) along x)
 
 -- before the first record the bootstrap and the frozen id alone have a status
 initial_ended : (b : Bool) → has_ended (cond b Committed Unset) ≡ b
@@ -154,14 +155,17 @@ or_none false b e = sym e
 
 -- it shows committed what the log committed
 pub committed_along :
-    (o : TransactionOrigin) (log : List Rec) → HasNoStatuses o.at → Legal o (transactions_of log) → (x : ℕ)
-    → is_committed ((state_along log).statuses x) ≡ committed o.at x (transactions_of log)
-unfolding state_along state_after before_records transaction_of committed
-committed_along o [] none legal x =
-    initial_committed (x == 1 || x == 2) ∙ or_none (x == 1 || x == 2) (o.at.is_committed x) (none x).0
-committed_along o (r ∷ older) none legal x =
-    let before = committed_along o older none (legal_rest o (transaction_of r) (transactions_of older) legal) x in
-    committed_after o r.head r.kind (state_along older).statuses (transactions_of older) (transactions_of (r ∷ older))
+    (o : TransactionOrigin) (log : List Rec) (state : TransactionState) → HasNoStatuses o.at → Legal o (transactions_of log)
+    → IsAlong log state → (x : ℕ) → is_committed (state.statuses x) ≡ committed o.at x (transactions_of log)
+unfolding state_after before_records forgetting transaction_of committed
+committed_along o [] state none legal is x =
+    ap (λ (s : TransactionState). is_committed (s.statuses x)) is
+    ∙ initial_committed (x == 1 || x == 2)
+    ∙ or_none (x == 1 || x == 2) (o.at.is_committed x) (none x).0
+committed_along o (r ∷ older) state none legal (was, bound, along, free, is) x =
+    let before = committed_along o older was none (legal_rest o (transaction_of r) (transactions_of older) legal) along x in
+    ap (λ (s : TransactionState). is_committed (s.statuses x)) is
+    ∙ committed_after o r.head r.kind was.statuses (transactions_of older) (transactions_of (r ∷ older))
     (rule_of o (transaction_of r) (transactions_of older) legal) x before
     ∙ ap (λ (t : Bool). commits x r.head.xid.0 (kind_of r.head r.kind) || t) before
 

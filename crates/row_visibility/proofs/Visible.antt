@@ -1,5 +1,5 @@
 -- A snapshot that decides as the log does sees exactly the rows.
-use Rattle.std.proofs.Common.{◌≡◌, ℕ, Bool, true, false, not, ◌&&◌, ◌||◌, ◌==◌, cond, List, ◌++◌, Some, Result, Ok, refl, sym, ap, ◌∙◌}
+use Rattle.std.proofs.Common.{◌≡◌, ℕ, Bool, true, false, not, ◌&&◌, ◌||◌, ◌==◌, cond, List, [], ◌++◌, Some, Result, Ok, refl, sym, ap, ◌∙◌}
 use Rattle.std.proofs.lemmas.Bool.{and_right, eqb-true, false≢true, true≢false}
 use Rattle.pg_types.specs.declared.status.Status.{Status}
 use Rattle.pg_types.specs.declared.status.Unknown.{Unknown}
@@ -7,10 +7,11 @@ use Rattle.pg_types.specs.Numbers.{has_bits}
 use Rattle.heap_tuple.specs.Tuple.{infomask_of, max_of, xmin_of}
 use Rattle.heap_tuple.specs.declared.tuple_view.MaxOf.{MaxOf}
 use Rattle.heap_tuple.specs.declared.tuple_view.MaxOf.TheVariants.{None as NoDeleter, Xid as DeletedBy, Multi}
-use Rattle.standby_snapshot.specs.Snapshot.{SnapshotData, in_progress, no_parents, take_of}
+use Rattle.standby_snapshot.specs.Snapshot.{SnapshotData, in_progress, take_of}
 use Rattle.tuple_visibility.specs.Visible.{counts, deleter_counts, deleter_of, inserter_counts, is_committed, unless_deleted, visible_of, xmin_marks}
-use Rattle.transaction_model.specs.TransactionLaws.{IdsDecide, StateAgrees}
-use Rattle.wal_bodies.specs.declared.types.Rec.{Rec}
+use Rattle.transaction_model.specs.TransactionLaws.{SnapshotDecides, StateAgrees}
+use Rattle.subtrans.specs.Parents.{topmost_of}
+use Rattle.typed_records.specs.declared.types.Rec.{Rec}
 use Rattle.row_model.specs.Versions.{Version, Inserter, Nobody, Always, By, is_frozen}
 use Rattle.row_model.specs.Origins.{LogOrigin, committed_in}
 use Rattle.row_model.specs.Multixacts.{WasMade, deleter_in, multixacts}
@@ -18,8 +19,9 @@ use Rattle.row_model.specs.Rows.{counts as inserter_is_in, is_deleted, is_row}
 use Rattle.row_model.specs.Shows.{AreMarksTrue, Shows, ShowsDeleter, ShowsInserter}
 use Rattle.xact_redo.specs.TransactionsOf.{transactions_of}
 use Rattle.xact_redo.specs.Sees.{no_multixacts}
-use Rattle.row_visibility.specs.Sees.{SeesOpened, SeesRows, state_along}
-use Rattle.row_visibility.proofs.Along.{decided_along, decided_then, legal_older}
+use Rattle.row_visibility.specs.Sees.{SeesOpened, SeesRows}
+use Rattle.row_visibility.proofs.Along.{decided_then, legal_older}
+use Rattle.row_visibility.proofs.Forgetting.{along_on}
 use Rattle.row_visibility.proofs.Statuses.{committed_along, first_committed, zero_not_committed}
 
 -- a mark that is true tells nothing more
@@ -56,28 +58,28 @@ seen_is i true e d same gone =
 seen_is i false e d same gone = ap (λ (t : Bool). cond t (unless_deleted d) (Ok false)) same
 
 -- a snapshot by which an id that committed by now is not in progress exactly where it had committed as it was taken
-module _ (o : LogOrigin) (log : List Rec) (snapshot : SnapshotData) (statuses : ℕ → Status) (was : ℕ → Bool)
-    (decided : (x : ℕ) → (not (in_progress snapshot no_parents x) && committed_in o log x) ≡ was x)
+module _ (o : LogOrigin) (log : List Rec) (snapshot : SnapshotData) (topmost : ℕ → ℕ) (statuses : ℕ → Status) (was : ℕ → Bool)
+    (decided : (x : ℕ) → (not (in_progress snapshot topmost x) && committed_in o log x) ≡ was x)
     (same : (x : ℕ) → is_committed (statuses x) ≡ committed_in o log x)
     (first : (x : ℕ) → (x == 1 || x == 2) ≡ true → was x ≡ true) (zero : was 0 ≡ false) where
   -- what has not committed by now had not
   was_not : (x : ℕ) → committed_in o log x ≡ false → was x ≡ false
-  was_not x e = sym (decided x) ∙ and_right (not (in_progress snapshot no_parents x)) (committed_in o log x) e
+  was_not x e = sym (decided x) ∙ and_right (not (in_progress snapshot topmost x)) (committed_in o log x) e
 
   -- an id counts exactly where it had committed
   counts_is :
       (marked : Bool) (x : ℕ) → (marked ≡ true → committed_in o log x ≡ true)
-      → counts snapshot no_parents statuses marked x ≡ was x
+      → counts snapshot topmost statuses marked x ≡ was x
   counts_is marked x h =
-      ap (λ (t : Bool). not (in_progress snapshot no_parents x) && (marked || t)) (same x)
-      ∙ ap (λ (t : Bool). not (in_progress snapshot no_parents x) && t) (marked_or marked (committed_in o log x) h)
+      ap (λ (t : Bool). not (in_progress snapshot topmost x) && (marked || t)) (same x)
+      ∙ ap (λ (t : Bool). not (in_progress snapshot topmost x) && t) (marked_or marked (committed_in o log x) h)
       ∙ decided x
 
   deleter_is :
       (d : MaxOf) (invalid marked : Bool) → WasMade log d
       → ((x : ℕ) → deleter_in log d ≡ Some x → invalid ≡ true → was x ≡ false)
       → ((x : ℕ) → deleter_in log d ≡ Some x → marked ≡ true → committed_in o log x ≡ true)
-      → deleter_counts snapshot no_parents statuses no_multixacts marked (cond invalid NoDeleter d)
+      → deleter_counts snapshot topmost statuses no_multixacts marked (cond invalid NoDeleter d)
       ≡ Ok (is_deleted (multixacts log) was d)
   deleter_is NoDeleter true marked made failed done = refl
   deleter_is NoDeleter false marked made failed done = refl
@@ -88,12 +90,12 @@ module _ (o : LogOrigin) (log : List Rec) (snapshot : SnapshotData) (statuses : 
   -- the deleter that a tuple shows
   deleter_shown :
       (v : Version) (tuple : List ℕ) → max_of tuple ≡ v.deleter → AreMarksTrue o log v tuple → WasMade log v.deleter
-      → deleter_counts snapshot no_parents statuses no_multixacts (has_bits (infomask_of tuple) 0x0400) (deleter_of tuple)
+      → deleter_counts snapshot topmost statuses no_multixacts (has_bits (infomask_of tuple) 0x0400) (deleter_of tuple)
       ≡ Ok (is_deleted (multixacts log) was v.deleter)
   unfolding deleter_of
   deleter_shown v tuple is marks made =
       ap (λ (d : MaxOf).
-      deleter_counts snapshot no_parents statuses no_multixacts (has_bits (infomask_of tuple) 0x0400)
+      deleter_counts snapshot topmost statuses no_multixacts (has_bits (infomask_of tuple) 0x0400)
       (cond (has_bits (infomask_of tuple) 0x0800) NoDeleter d))
       is
       ∙ deleter_is v.deleter (has_bits (infomask_of tuple) 0x0800) (has_bits (infomask_of tuple) 0x0400) made
@@ -106,11 +108,11 @@ module _ (o : LogOrigin) (log : List Rec) (snapshot : SnapshotData) (statuses : 
       → ((m == 0x0300)
       || (n == 1)
       || (n == 2)
-      || (not (n == 0) && not (m == 0x0200) && counts snapshot no_parents statuses (m == 0x0100) n))
+      || (not (n == 0) && not (m == 0x0200) && counts snapshot topmost statuses (m == 0x0100) n))
       ≡ was n
   inserter_tests m n thawed failed done =
       tests_of_inserter (m == 0x0300) (n == 1) (n == 2) (n == 0) (m == 0x0200)
-      (counts snapshot no_parents statuses (m == 0x0100) n) (was n) thawed (first n)
+      (counts snapshot topmost statuses (m == 0x0100) n) (was n) thawed (first n)
       (λ h. ap was (eqb-true n 0 h) ∙ zero) (λ h. failed (eqb-true m 0x0200 h))
       (counts_is (m == 0x0100) n (λ h. done (eqb-true m 0x0100 h)))
 
@@ -119,7 +121,7 @@ module _ (o : LogOrigin) (log : List Rec) (snapshot : SnapshotData) (statuses : 
       (tuple : List ℕ) (x : ℕ) → xmin_of tuple ≡ x → is_frozen tuple ≡ false
       → (xmin_marks tuple ≡ 0x0200 → was x ≡ false)
       → (xmin_marks tuple ≡ 0x0100 → committed_in o log x ≡ true)
-      → inserter_counts tuple snapshot no_parents statuses ≡ was x
+      → inserter_counts tuple snapshot topmost statuses ≡ was x
   unfolding inserter_counts
   inserter_by tuple x is thawed failed done =
       let at_x : was (xmin_of tuple) ≡ was x = ap was is in
@@ -128,28 +130,28 @@ module _ (o : LogOrigin) (log : List Rec) (snapshot : SnapshotData) (statuses : 
   -- an insertion that was taken back does not count
   inserter_gone :
       (tuple : List ℕ) → xmin_of tuple ≡ 0 → is_frozen tuple ≡ false
-      → inserter_counts tuple snapshot no_parents statuses ≡ false
+      → inserter_counts tuple snapshot topmost statuses ≡ false
   unfolding inserter_counts
   inserter_gone tuple is thawed =
       tests_of_none (xmin_marks tuple == 0x0300) (xmin_marks tuple == 0x0200)
-      (counts snapshot no_parents statuses (xmin_marks tuple == 0x0100) (xmin_of tuple)) (xmin_of tuple) thawed is
+      (counts snapshot topmost statuses (xmin_marks tuple == 0x0100) (xmin_of tuple)) (xmin_of tuple) thawed is
 
   -- one whose tuple is frozen does
   inserter_frozen :
-      (tuple : List ℕ) → is_frozen tuple ≡ true → inserter_counts tuple snapshot no_parents statuses ≡ true
+      (tuple : List ℕ) → is_frozen tuple ≡ true → inserter_counts tuple snapshot topmost statuses ≡ true
   unfolding inserter_counts
   inserter_frozen tuple is =
       tests_of_frozen (xmin_marks tuple == 0x0300) (xmin_of tuple == 1) (xmin_of tuple == 2)
       (not (xmin_of tuple == 0)
       && not (xmin_marks tuple == 0x0200)
-      && counts snapshot no_parents statuses (xmin_marks tuple == 0x0100) (xmin_of tuple))
+      && counts snapshot topmost statuses (xmin_marks tuple == 0x0100) (xmin_of tuple))
       is
 
   -- an inserter counts where the tuple shows it, frozen only where it counts
   inserter_is :
       (v : Version) (tuple : List ℕ) (i : Inserter) (frozen : Bool) → v.inserter ≡ i → is_frozen tuple ≡ frozen
       → (frozen ≡ true → inserter_is_in was i ≡ true) → ShowsInserter tuple i → AreMarksTrue o log v tuple
-      → inserter_counts tuple snapshot no_parents statuses ≡ inserter_is_in was i
+      → inserter_counts tuple snapshot topmost statuses ≡ inserter_is_in was i
   inserter_is v tuple i true by frozen counted shows marks = inserter_frozen tuple frozen ∙ sym (counted refl)
   inserter_is v tuple Nobody false by thawed counted shows marks = inserter_gone tuple shows thawed
   inserter_is v tuple Always false by thawed counted shows marks = absurd (false≢true (sym thawed ∙ shows))
@@ -160,7 +162,7 @@ module _ (o : LogOrigin) (log : List Rec) (snapshot : SnapshotData) (statuses : 
   deleter_by :
       (v : Version) (tuple : List ℕ) (i : Inserter) → ShowsDeleter tuple i v.deleter → AreMarksTrue o log v tuple
       → WasMade log v.deleter → inserter_is_in was i ≡ true
-      → deleter_counts snapshot no_parents statuses no_multixacts (has_bits (infomask_of tuple) 0x0400) (deleter_of tuple)
+      → deleter_counts snapshot topmost statuses no_multixacts (has_bits (infomask_of tuple) 0x0400) (deleter_of tuple)
       ≡ Ok (is_deleted (multixacts log) was v.deleter)
   deleter_by v tuple Nobody shows marks made h = absurd (false≢true h)
   deleter_by v tuple Always shows marks made h = deleter_shown v tuple shows marks made
@@ -169,26 +171,26 @@ module _ (o : LogOrigin) (log : List Rec) (snapshot : SnapshotData) (statuses : 
   pub sees_is :
       (v : Version) (tuple : List ℕ) → Shows o log v tuple → WasMade log v.deleter
       → (v.frozen ≡ true → inserter_is_in was v.inserter ≡ true)
-      → visible_of tuple snapshot no_parents statuses no_multixacts ≡ Ok (is_row (multixacts log) was v)
+      → visible_of tuple snapshot topmost statuses no_multixacts ≡ Ok (is_row (multixacts log) was v)
   unfolding visible_of
   sees_is v tuple shows made frozen =
-      seen_is (inserter_counts tuple snapshot no_parents statuses) (inserter_is_in was v.inserter)
+      seen_is (inserter_counts tuple snapshot topmost statuses) (inserter_is_in was v.inserter)
       (is_deleted (multixacts log) was v.deleter)
-      (deleter_counts snapshot no_parents statuses no_multixacts (has_bits (infomask_of tuple) 0x0400) (deleter_of tuple))
+      (deleter_counts snapshot topmost statuses no_multixacts (has_bits (infomask_of tuple) 0x0400) (deleter_of tuple))
       (inserter_is v tuple v.inserter (is_frozen tuple) refl refl (λ h. frozen (sym shows.frozen ∙ h)) shows.inserter shows.marks)
       (deleter_by v tuple v.inserter shows.deleter shows.marks made)
 
-pub sees_along : StateAgrees → IdsDecide → SeesRows
-sees_along agrees decide o log none legal ready v tuple shows sound =
-    sees_is o log (take_of (state_along log).known) (state_along log).statuses (committed_in o log)
-    (decided_along agrees decide o.transactions log none legal ready) (committed_along o.transactions log none legal)
-    (first_committed o.transactions.at (transactions_of log)) (zero_not_committed o.transactions (transactions_of log) legal) v
-    tuple shows sound.made sound.frozen
-
-pub sees_then : StateAgrees → IdsDecide → SeesOpened
-sees_then agrees decide o later opened none legal ready v tuple shows sound frozen =
-    sees_is o (later ++ opened) (take_of (state_along opened).known) (state_along (later ++ opened)).statuses
-    (committed_in o opened) (decided_then agrees decide o.transactions later opened none legal ready)
-    (committed_along o.transactions (later ++ opened) none legal) (first_committed o.transactions.at (transactions_of opened))
+pub sees_then : StateAgrees → SnapshotDecides → SeesOpened
+sees_then agrees decide o later opened was now none legal along ready since v tuple shows sound frozen =
+    sees_is o (later ++ opened) (take_of was.known) (topmost_of now.parents) now.statuses (committed_in o opened)
+    (decided_then agrees decide o.transactions later opened was now none legal along ready since)
+    (committed_along o.transactions (later ++ opened) now none legal
+    (along_on later opened was now (take_of was.known).xmin along since))
+    (first_committed o.transactions.at (transactions_of opened))
     (zero_not_committed o.transactions (transactions_of opened) (legal_older o.transactions later opened legal)) v tuple shows
     sound.made frozen
+
+-- a snapshot of this very state
+pub sees_along : StateAgrees → SnapshotDecides → SeesRows
+sees_along agrees decide o log state none legal along ready v tuple shows sound =
+    sees_then agrees decide o [] log state state none legal along ready refl v tuple shows sound sound.frozen

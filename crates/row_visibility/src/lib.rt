@@ -1,8 +1,18 @@
 //! After a legal log a snapshot of the standby sees exactly the rows.
 #![tactic(auto)]
 
-ghost use Rattle.row_visibility.specs.Sees.{SeesOpened, SeesRows, StateAlong, XminAlong};
+ghost use Rattle.row_visibility.specs.Sees.{AllKept, NoneBelowXmin, SeesOpened, SeesRows, StateAlong, XminAlong};
 ghost use Rattle.row_visibility.specs.WorkedSight.{IsWorkedSight};
+
+/// A standby may forget no parent.
+pub fn all_kept()
+    ensures { AllKept }
+{}
+
+/// No id that is known to run is below the xmin that a snapshot has then.
+pub fn none_below_xmin()
+    ensures { NoneBelowXmin }
+{}
 
 /// The state of the rules is that of the log.
 pub fn state_along()
@@ -24,7 +34,7 @@ pub fn sees_rows()
     ensures { SeesRows }
 {
     transaction_model::transactions::state_agrees();
-    transaction_model::transactions::ids_decide();
+    transaction_model::transactions::snapshot_decides();
 }
 
 /// A snapshot that was taken earlier sees exactly the tuples whose versions were rows then.
@@ -32,7 +42,7 @@ pub fn sees_opened()
     ensures { SeesOpened }
 {
     transaction_model::transactions::state_agrees();
-    transaction_model::transactions::ids_decide();
+    transaction_model::transactions::snapshot_decides();
 }
 
 /// The log that is worked by hand meets what these laws ask for, and its tuples are seen as worked.

@@ -7,7 +7,7 @@ use std::alloc::AllocError;
 use std::{fs, io};
 
 /// The files with the sessions.
-const CASES: [&str; 25] = [
+const CASES: [&str; 29] = [
     "line_by_line",
     "empty_source",
     "status",
@@ -33,6 +33,10 @@ const CASES: [&str; 25] = [
     "twice",
     "cancelled",
     "locked_by_oid",
+    "pending_ends_by_its_oldest",
+    "pending_ends_by_a_whole_record",
+    "subtransaction_aborts_alone",
+    "hundred_thousand_subtransactions",
 ];
 
 /// A session: what it replays, and the bytes of its source.

@@ -6,7 +6,9 @@ use Rattle.pg_types.specs.declared.status.Unknown.{Unknown}
 use Rattle.heap_tuple.specs.declared.cell.Cell.{Cell}
 use Rattle.heap_tuple.specs.declared.cell.Column.{Column}
 use Rattle.heap_page.specs.Item.{Item, unused, normal, redirect, dead}
-use Rattle.standby_snapshot.specs.Snapshot.{SnapshotData, no_parents}
+use Rattle.standby_snapshot.specs.Snapshot.{SnapshotData}
+use Rattle.subtrans.specs.declared.Pair.{Pair}
+use Rattle.subtrans.specs.Parents.{topmost_of}
 use Rattle.tuple_visibility.specs.Visible.{visible_of}
 use Rattle.seq_scan.specs.BlockRows.{BlockEnd, BlockRows, Whole, ToastedAt, BadAt, UnknownAt, NoPage, ends, with_row, with_tuple}
 use Rattle.seq_scan.specs.declared.rows.BlockEnd.{BlockEnd as EndRead}
@@ -27,9 +29,9 @@ block_end IsNoPage = NoPage
 abbrev pub meaning : RowsRead → BlockRows
 meaning block = record { rows = block.rows; end = block_end block.end }
 
--- whether a snapshot sees a tuple, which has no need of parents
-abbrev pub seen_by : SnapshotData → (ℕ → Status) → (ℕ → Option (Option Xid)) → List ℕ → Result Bool Unknown
-seen_by snapshot statuses updaters tuple = visible_of tuple snapshot no_parents statuses updaters
+-- whether a snapshot sees a tuple, by these parents of subtransactions, statuses and updaters of multixacts
+abbrev pub seen_by : SnapshotData → List Pair → (ℕ → Status) → (ℕ → Option (Option Xid)) → List ℕ → Result Bool Unknown
+seen_by snapshot parents statuses updaters tuple = visible_of tuple snapshot (topmost_of parents) statuses updaters
 
 -- what is found at a line, before the others
 abbrev pub before : Found → BlockRows → BlockRows

@@ -2,7 +2,8 @@ ghost use Rattle.std.specs.Prelude.{◌≡◌, ◌≢◌, ◌<◌, IfOk, OnOk, O
 ghost use Rattle.heap_page.specs.Page.{items_of};
 ghost use Rattle.page_store.specs.Content.{content, table_count};
 ghost use Rattle.page_store.specs.Seen.{seen};
-ghost use Rattle.standby_snapshot.specs.Snapshot.{in_numbers, no_parents};
+ghost use Rattle.standby_snapshot.specs.Snapshot.{in_numbers};
+ghost use Rattle.subtrans.specs.Parents.{topmost_of};
 ghost use Rattle.tuple_visibility.specs.Visible.{visible_of};
 ghost use Rattle.seq_scan.specs.BlockRows.{NoPage, ends, block_rows, rows_from};
 ghost use Rattle.seq_scan.specs.Meaning.{meaning, seen_by};
@@ -25,7 +26,7 @@ fn read_page<S: Statuses>(
     snapshot: &Snapshot,
     statuses: &S,
 ) -> Result<BlockRows, NoMemory>
-    ensures { let sees = seen_by (in_numbers snapshot.now) (S.status_of statuses.now) (S.updater_of statuses.now) in
+    ensures { let sees = seen_by (in_numbers snapshot.now) (S.parents_of statuses.now) (S.status_of statuses.now) (S.updater_of statuses.now) in
         IfOk result (λ block. meaning block ≡ rows_from columns.now sees 1 (items_of page.now)) }
 {
     let mut rows = Rows::new(alloc);
@@ -68,7 +69,7 @@ pub fn read_block<S: Statuses>(
 ) -> Result<BlockRows, NoMemory>
     requires table { tag.table < table_count pool.old }
     ensures rows { IfOk result (λ block. meaning block ≡ block_rows columns.now
-        (λ tuple. visible_of tuple (in_numbers snapshot.now) no_parents (S.status_of statuses.now) (S.updater_of statuses.now))
+        (λ tuple. visible_of tuple (in_numbers snapshot.now) (topmost_of (S.parents_of statuses.now)) (S.status_of statuses.now) (S.updater_of statuses.now))
         (seen (content pool.old tag.table tag.block))) }
     ensures content { content pool.new ≡ content pool.old }
     ensures tables { table_count pool.new ≡ table_count pool.old }

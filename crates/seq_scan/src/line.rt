@@ -50,7 +50,7 @@ fn read_tuple<S: Statuses>(
     statuses: &S,
 ) -> Result<Found, NoMemory>
     requires { IsTuple bytes.now }
-    ensures { let sees = seen_by (in_numbers snapshot.now) (S.status_of statuses.now) (S.updater_of statuses.now) in
+    ensures { let sees = seen_by (in_numbers snapshot.now) (S.parents_of statuses.now) (S.status_of statuses.now) (S.updater_of statuses.now) in
         IfOk result (λ found. (rest : BlockRows) → before found rest ≡ with_tuple columns.now line bytes.now (sees bytes.now) rest) }
 {
     let Some(tuple) = TupleView::read(bytes) else {
@@ -75,7 +75,7 @@ pub fn read_line<S: Statuses>(
     snapshot: &Snapshot,
     statuses: &S,
 ) -> Result<Found, NoMemory>
-    ensures { let sees = seen_by (in_numbers snapshot.now) (S.status_of statuses.now) (S.updater_of statuses.now) in
+    ensures { let sees = seen_by (in_numbers snapshot.now) (S.parents_of statuses.now) (S.status_of statuses.now) (S.updater_of statuses.now) in
         IfOk result (λ found. (rest : BlockRows) → before found rest ≡ with_item columns.now sees line (numbered (items_of page.now) line) rest) }
 {
     match page.item(line) {

@@ -5,7 +5,8 @@ ghost use Rattle.heap_page.specs.Item.{numbered};
 ghost use Rattle.heap_page.specs.Page.{items_of};
 ghost use Rattle.page_store.specs.Content.{content, table_count};
 ghost use Rattle.page_store.specs.Seen.{seen};
-ghost use Rattle.standby_snapshot.specs.Snapshot.{in_numbers, no_parents};
+ghost use Rattle.standby_snapshot.specs.Snapshot.{in_numbers};
+ghost use Rattle.subtrans.specs.Parents.{topmost_of};
 ghost use Rattle.tuple_visibility.specs.Visible.{visible_of};
 ghost use Rattle.seq_scan.specs.BlockRows.{BlockRows, NoPage, block_rows, rows_from, with_tuple, with_values};
 ghost use Rattle.seq_scan.specs.Meaning.{block_end, seen_by, with_item};
@@ -60,7 +61,7 @@ fn print_seen<S: Statuses>(
     out: &mut Vec<u8>,
 ) -> Result<Option<BlockEnd>, NoMemory>
     requires { IsTuple bytes.now }
-    ensures { let sees = seen_by (in_numbers snapshot.now) (S.status_of statuses.now) (S.updater_of statuses.now) in
+    ensures { let sees = seen_by (in_numbers snapshot.now) (S.parents_of statuses.now) (S.status_of statuses.now) (S.updater_of statuses.now) in
         IfOk result (λ found. (rest : BlockRows) → printed_before head.now columns.now out.new.items found rest ≡ printed_rows head.now columns.now out.old.items (with_tuple columns.now line bytes.now (sees bytes.now) rest)) }
 {
     let Some(tuple) = TupleView::read(bytes) else {
@@ -86,7 +87,7 @@ fn print_line<S: Statuses>(
     head: &[u8],
     out: &mut Vec<u8>,
 ) -> Result<Option<BlockEnd>, NoMemory>
-    ensures { let sees = seen_by (in_numbers snapshot.now) (S.status_of statuses.now) (S.updater_of statuses.now) in
+    ensures { let sees = seen_by (in_numbers snapshot.now) (S.parents_of statuses.now) (S.status_of statuses.now) (S.updater_of statuses.now) in
         IfOk result (λ found. (rest : BlockRows) → printed_before head.now columns.now out.new.items found rest ≡ printed_rows head.now columns.now out.old.items (with_item columns.now sees line (numbered (items_of page.now) line) rest)) }
 {
     match page.item(line) {
@@ -104,7 +105,7 @@ fn print_page<S: Statuses>(
     head: &[u8],
     out: &mut Vec<u8>,
 ) -> Result<BlockEnd, NoMemory>
-    ensures { let sees = seen_by (in_numbers snapshot.now) (S.status_of statuses.now) (S.updater_of statuses.now) in
+    ensures { let sees = seen_by (in_numbers snapshot.now) (S.parents_of statuses.now) (S.status_of statuses.now) (S.updater_of statuses.now) in
         IfOk result (λ end. (out.new.items, block_end end) ≡ printed_rows head.now columns.now out.old.items (rows_from columns.now sees 1 (items_of page.now))) }
 {
     for k in 0..page.lines() {
@@ -142,7 +143,7 @@ pub fn print_block<S: Statuses>(
 ) -> Result<BlockEnd, NoMemory>
     requires table { tag.table < table_count pool.old }
     ensures rows { IfOk result (λ end. (out.new.items, block_end end) ≡ printed_rows head.now columns.now out.old.items (block_rows columns.now
-        (λ tuple. visible_of tuple (in_numbers snapshot.now) no_parents (S.status_of statuses.now) (S.updater_of statuses.now))
+        (λ tuple. visible_of tuple (in_numbers snapshot.now) (topmost_of (S.parents_of statuses.now)) (S.status_of statuses.now) (S.updater_of statuses.now))
         (seen (content pool.old tag.table tag.block)))) }
     ensures content { content pool.new ≡ content pool.old }
     ensures tables { table_count pool.new ≡ table_count pool.old }

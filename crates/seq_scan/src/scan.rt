@@ -109,7 +109,7 @@ impl Scan {
     ) -> Result<ScanPage, NoMemory>
         requires pooled { self.old.table < table_count pool.old }
         requires described { self.old.table < length tables.now.tables }
-        ensures page { let page = page_of (columns_of tables.now self.old.table) (seen_by self.old.snapshot (S.status_of statuses.now) (S.updater_of statuses.now)) (λ block. seen (content pool.old self.old.table block)) self.old in
+        ensures page { let page = page_of (columns_of tables.now self.old.table) (seen_by self.old.snapshot (S.parents_of statuses.now) (S.status_of statuses.now) (S.updater_of statuses.now)) (λ block. seen (content pool.old self.old.table block)) self.old in
             IfOk result (λ given. (given.rows ≡ page.rows) × (given.end ≡ end_of_page self.old page)) }
         ensures onward { IfOk result (λ _. self.new ≡ after_page self.old) }
         ensures err { OnErr result (self.new ≡ self.old) }
@@ -153,7 +153,7 @@ impl Scan {
     ) -> Result<PageEnd, NoMemory>
         requires pooled { self.old.table < table_count pool.old }
         requires described { self.old.table < length tables.now.tables }
-        ensures page { let page = page_of (columns_of tables.now self.old.table) (seen_by self.old.snapshot (S.status_of statuses.now) (S.updater_of statuses.now)) (λ block. seen (content pool.old self.old.table block)) self.old in
+        ensures page { let page = page_of (columns_of tables.now self.old.table) (seen_by self.old.snapshot (S.parents_of statuses.now) (S.status_of statuses.now) (S.updater_of statuses.now)) (λ block. seen (content pool.old self.old.table block)) self.old in
             IfOk result (λ end. (out.new.items ≡ out.old.items ++ flat_map (row_line head.now (columns_of tables.now self.old.table)) page.rows) × (end ≡ end_of_page self.old page)) }
         ensures onward { IfOk result (λ _. self.new ≡ after_page self.old) }
         ensures err { OnErr result (self.new ≡ self.old) }

@@ -2,7 +2,7 @@
 -- CheckRecoveryConsistency; heapam.c, heap_getnextslot). The node is taken without what it keeps of the log.
 use Rattle.std.specs.Prelude.{◌≡◌, ℕ, [], Option, None, Some, Result, Ok, Err, is_some, if◌then◌else◌}
 use Rattle.wal_record.specs.declared.types.PrevRule.TheVariants.{Is}
-use Rattle.wal_bodies.specs.declared.types.Rec.{Rec}
+use Rattle.typed_records.specs.declared.types.Rec.{Rec}
 use Rattle.page_store.specs.Seen.{View}
 use Rattle.heap_redo.specs.declared.fault.RedoFault.{RedoFault}
 use Rattle.heap_redo.specs.Redone.{redone_record}
@@ -19,6 +19,7 @@ use Rattle.standby_core.specs.declared.types.Replayed.TheVariants as replayed
 use Rattle.recovery_conflict.specs.declared.locks.Cause.{Cause}
 use Rattle.recovery_conflict.specs.Held.{locks_after}
 use Rattle.standby_core.specs.Conflicts.{cancelled_by, gone_after}
+use Rattle.standby_core.specs.Horizon.{parents_kept}
 use Rattle.standby_core.specs.declared.scans.NodeScan.{NodeScan}
 use Rattle.standby_core.specs.declared.scans.Opened.{Opened as OpenedBy}
 use Rattle.standby_core.specs.declared.scans.Opened.TheVariants as opened
@@ -48,7 +49,7 @@ applied rec blocks node = record node {
   prev = Is rec.start;
   awaited = awaited_after rec.kind node.awaited;
   blocks = blocks;
-  transactions = state_after rec node.transactions;
+  transactions = parents_kept rec node.scans (state_after rec node.transactions);
   scans = cancelled_by rec node.tables node.scans;
   locks = locks_after rec node.locks;
   gone = gone_after rec (locators node.tables) node.gone;

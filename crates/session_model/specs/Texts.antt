@@ -7,8 +7,8 @@ use Rattle.known_assigned.specs.declared.state.State.{State}
 use Rattle.known_assigned.specs.declared.state.State.TheVariants.{Initialized, Pending, Ready}
 use Rattle.wal_reader.specs.declared.types.EndWhy.{EndWhy}
 use Rattle.wal_reader.specs.declared.types.EndWhy.TheVariants as why
-use Rattle.wal_bodies.specs.declared.types.What.{What}
-use Rattle.wal_bodies.specs.declared.types.What.TheVariants.{Prepared, InPlace, Minimal, PageWrites, Database, Epoch, NotYet}
+use Rattle.typed_records.specs.declared.types.What.{What}
+use Rattle.typed_records.specs.declared.types.What.TheVariants.{Prepared, InPlace, Minimal, PageWrites, Database, Epoch, NotYet}
 use Rattle.heap_tuple.specs.declared.cell.Cell.{Cell}
 use Rattle.heap_tuple.specs.declared.cell.Column.{Column}
 use Rattle.table_schema.specs.Description.{DescribedTable}

@@ -7,7 +7,7 @@ use Rattle.std.proofs.Math.Seq.{drop-cons, take-suc-set}
 use Rattle.std.proofs.lemmas.List.{append-nil, append_assoc, drop-set-lt, drop_all, take_all}
 use Rattle.pg_types.specs.declared.names.Locator.{Locator}
 use Rattle.pg_types.specs.declared.names.Lsn.{Lsn}
-use Rattle.wal_bodies.specs.declared.types.Rec.{Rec}
+use Rattle.typed_records.specs.declared.types.Rec.{Rec}
 use Rattle.table_schema.specs.Description.{DescribedTable, Description}
 use Rattle.table_schema.specs.Tables.{nameless}
 use Rattle.heap_redo.specs.Redone.{table_of}

@@ -18,9 +18,9 @@ use Rattle.wal_reader.specs.Kept.{AreTold, Kept}
 use Rattle.wal_reader.specs.Standing.{Answers, BearsPosition, Standing, record_given}
 use Rattle.wal_reader.specs.Step.{Entry, step}
 use Rattle.wal_reader.specs.Told.{Told}
-use Rattle.wal_bodies.specs.declared.types.BodyFault.{BodyFault}
-use Rattle.wal_bodies.specs.declared.types.BodyFault.TheVariants as body
-use Rattle.wal_bodies.specs.declared.types.Rec.{Rec}
+use Rattle.typed_records.specs.declared.types.BodyFault.{BodyFault}
+use Rattle.typed_records.specs.declared.types.BodyFault.TheVariants as body
+use Rattle.typed_records.specs.declared.types.Rec.{Rec}
 use Rattle.wal_bodies.specs.Typed.{typed}
 use Rattle.heap_redo.specs.declared.fault.RedoFault.{RedoFault}
 use Rattle.heap_redo.specs.declared.fault.RedoFault.TheVariants as redo
@@ -40,6 +40,7 @@ use Rattle.standby_model.specs.Log as log
 use Rattle.standby_model.specs.Log.{Stop as LogStop, record_at, stop_by, typed_of, unless_refused}
 use Rattle.recovery_conflict.specs.Held.{locks_after}
 use Rattle.standby_core.specs.Conflicts.{cancelled_by, gone_after, newly_cancelled}
+use Rattle.standby_core.specs.Horizon.{parents_kept}
 use Rattle.standby_core.specs.declared.types.Passed.{Passed}
 use Rattle.standby_core.specs.Standby.{Standby, described_to, told_to}
 use Rattle.standby_core.specs.declared.types.Stopped.{Stopped}
@@ -95,24 +96,25 @@ stops_found start end rec old new found stopped.Memory e (inr ran) same = (inr (
 
 -- a record was redone where each of the node's parts is as after it
 pub redone_as :
-    (rec : Rec) (old : Standby) (blocks : View) (transactions : TransactionState) (scans : List NodeScan) (next : ℕ) (locks : List HeldLock)
+    (rec : Rec) (old : Standby) (blocks : View) (applied transactions : TransactionState) (scans : List NodeScan) (next : ℕ) (locks : List HeldLock)
     (known : List Locator) (gone : List (Option Lsn)) (passed : Passed) → redone_record rec (locators old.tables) old.blocks ≡ (blocks, Ok tt)
-    → transactions ≡ state_after rec old.transactions → scans ≡ cancelled_by rec old.tables old.scans → next ≡ old.next_id
+    → applied ≡ state_after rec old.transactions → transactions ≡ parents_kept rec old.scans applied
+    → scans ≡ cancelled_by rec old.tables old.scans → next ≡ old.next_id
     → locks ≡ locks_after rec old.locks → known ≡ locators old.tables → gone ≡ gone_after rec known old.gone
     → passed.awaited ≡ awaited_after rec.kind old.awaited → passed.cancelled ≡ newly_cancelled rec old.tables old.scans
     → IsRedone rec passed old
     (record old { blocks = blocks; transactions = transactions; scans = scans; next_id = next; locks = locks; gone = gone })
-redone_as rec old blocks transactions scans next locks known gone passed changed known_so cancelled ids held files dropped awaits counts =
+redone_as rec old blocks applied transactions scans next locks known gone passed changed known_so forgotten cancelled ids held files dropped awaits counts =
     let made : TransactionState → List NodeScan → ℕ → List HeldLock → List (Option Lsn) → Standby = λ t s n l g.
     record old { blocks = blocks; transactions = t; scans = s; next_id = n; locks = l; gone = g } in
-    let state = state_after rec old.transactions in
+    let state = parents_kept rec old.scans (state_after rec old.transactions) in
     let left = cancelled_by rec old.tables old.scans in
     record {
       blocks = changed;
       awaited_is = awaits;
       cancelled_is = counts;
       others =
-          ap (λ t. made t scans next locks gone) known_so
+          ap (λ t. made t scans next locks gone) (forgotten ∙ ap (parents_kept rec old.scans) known_so)
           ∙ ap (λ s. made state s next locks gone) cancelled
           ∙ ap (λ n. made state left n locks gone) ids
           ∙ ap (λ l. made state left old.next_id l gone) held
@@ -142,7 +144,7 @@ given_passed reader start end passed old mid new h moved =
           prev = Is s;
           awaited = w;
           blocks = b;
-          transactions = state_after rec old.transactions;
+          transactions = parents_kept rec old.scans (state_after rec old.transactions);
           kept = k;
           scans = cancelled_by rec old.tables old.scans;
           locks = locks_after rec old.locks;

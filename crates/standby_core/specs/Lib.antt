@@ -5,3 +5,4 @@ pub mod View
 pub mod Scans
 pub mod Pages
 pub mod Conflicts
+pub mod Horizon

@@ -5,9 +5,9 @@ use Rattle.pg_types.specs.declared.names.Lsn.{Lsn}
 use Rattle.wal_record.specs.declared.types.PrevRule.TheVariants.{Is}
 use Rattle.wal_reader.specs.declared.types.NoRecord.{NoRecord}
 use Rattle.wal_reader.specs.Step.{Entry}
-use Rattle.wal_bodies.specs.declared.types.Rec.{Rec}
-use Rattle.wal_bodies.specs.declared.types.RecKind.{RecKind}
-use Rattle.wal_bodies.specs.declared.types.RecKind.TheVariants.{BackupEnd}
+use Rattle.typed_records.specs.declared.types.Rec.{Rec}
+use Rattle.typed_records.specs.declared.types.RecKind.{RecKind}
+use Rattle.typed_records.specs.declared.types.RecKind.TheVariants.{BackupEnd}
 use Rattle.heap_redo.specs.declared.fault.RedoFault.{RedoFault}
 use Rattle.heap_redo.specs.declared.fault.RedoFault.TheVariants as redo
 use Rattle.heap_redo.specs.Redone.{RanOut, redone_record}
@@ -22,6 +22,7 @@ use Rattle.standby_core.specs.declared.types.Replayed.TheVariants.{Applied, AtEn
 use Rattle.standby_core.specs.declared.types.NodeFault.{NodeFault}
 use Rattle.standby_core.specs.declared.types.NodeFault.TheVariants.{Archive, Memory}
 use Rattle.recovery_conflict.specs.Held.{locks_after}
+use Rattle.standby_core.specs.Horizon.{parents_kept}
 use Rattle.standby_core.specs.Conflicts.{cancelled_by, gone_after, newly_cancelled}
 use Rattle.standby_core.specs.Standby.{Standby, described_to}
 
@@ -35,8 +36,8 @@ abbrev pub awaited_after : RecKind → Option Lsn → Option Lsn
 awaited_after kind None = None
 awaited_after kind (Some start) = if ends_backup start kind then None else Some start
 
--- the record is applied to the blocks, to the state of transactions and to the locks, the scans that it conflicts with
--- are cancelled, and the node stands at its end
+-- the record is applied to the blocks, to the state of transactions and to the locks, the parents that no snapshot may ask
+-- for are forgotten, the scans that it conflicts with are cancelled, and the node stands at its end
 pub record IsApplied (rec : Rec) (old new : Standby) : Type 0 where
   pub blocks : redone_record rec (locators old.tables) old.blocks ≡ (new.blocks, Ok tt)
   pub others :
@@ -45,7 +46,7 @@ pub record IsApplied (rec : Rec) (old new : Standby) : Type 0 where
         prev = Is rec.start;
         awaited = awaited_after rec.kind old.awaited;
         blocks = new.blocks;
-        transactions = state_after rec old.transactions;
+        transactions = parents_kept rec old.scans (state_after rec old.transactions);
         kept = new.kept;
         scans = cancelled_by rec old.tables old.scans;
         locks = locks_after rec old.locks;

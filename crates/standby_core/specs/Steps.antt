@@ -7,9 +7,9 @@ use Rattle.wal_record.specs.Record.{Record}
 use Rattle.wal_reader.specs.declared.types.ReadFault.{ReadFault}
 use Rattle.wal_reader.specs.declared.types.ReadFault.TheVariants as fault
 use Rattle.wal_reader.specs.Standing.{Standing}
-use Rattle.wal_bodies.specs.declared.types.Rec.{Rec}
-use Rattle.wal_bodies.specs.declared.types.BodyFault.{BodyFault}
-use Rattle.wal_bodies.specs.declared.types.BodyFault.TheVariants as body
+use Rattle.typed_records.specs.declared.types.Rec.{Rec}
+use Rattle.typed_records.specs.declared.types.BodyFault.{BodyFault}
+use Rattle.typed_records.specs.declared.types.BodyFault.TheVariants as body
 use Rattle.heap_redo.specs.declared.fault.RedoFault.{RedoFault}
 use Rattle.page_store.specs.Seen.{View}
 use Rattle.heap_redo.specs.Redone.{RanOut, redone_record}
@@ -24,6 +24,7 @@ use Rattle.standby_core.specs.declared.types.NodeFault.TheVariants.{Archive, Mem
 use Rattle.standby_model.specs.Log.{Stop, typed_of}
 use Rattle.standby_core.specs.Standby.{Standby, described_to}
 use Rattle.recovery_conflict.specs.Held.{locks_after}
+use Rattle.standby_core.specs.Horizon.{parents_kept}
 use Rattle.standby_core.specs.Conflicts.{cancelled_by, gone_after, newly_cancelled}
 use Rattle.standby_core.specs.declared.types.Passed.{Passed}
 use Rattle.standby_core.specs.declared.types.Stopped.{Stopped}
@@ -62,8 +63,8 @@ TypedRedone rec known (Err (stopped.Refused what)) old new =
     (fault : RedoFault) × (redone_record rec known old ≡ (new, Err fault)) × (redo_refusal fault ≡ Some what)
 TypedRedone rec known (Err stopped.Memory) old new = (new ≡ old) ⊎ RanOut rec known old new
 
--- a record has changed the blocks, the state of transactions and the locks, and cancelled so many scans; and this end
--- of a backup is awaited then
+-- a record has changed the blocks, the state of transactions and the locks, and cancelled so many scans; the parents that no
+-- snapshot may ask for are forgotten; and this end of a backup is awaited then
 pub record IsRedone (rec : Rec) (passed : Passed) (old new : Standby) : Type 0 where
   pub blocks : redone_record rec (locators old.tables) old.blocks ≡ (new.blocks, Ok tt)
   pub awaited_is : passed.awaited ≡ awaited_after rec.kind old.awaited
@@ -71,7 +72,7 @@ pub record IsRedone (rec : Rec) (passed : Passed) (old new : Standby) : Type 0 w
   pub others :
       new ≡ record old {
         blocks = new.blocks;
-        transactions = state_after rec old.transactions;
+        transactions = parents_kept rec old.scans (state_after rec old.transactions);
         scans = cancelled_by rec old.tables old.scans;
         locks = locks_after rec old.locks;
         gone = gone_after rec (locators old.tables) old.gone;

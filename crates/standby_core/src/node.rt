@@ -8,6 +8,7 @@ ghost use Rattle.wal_bodies.specs.Xids.{AreXidsShort};
 ghost use Rattle.xact_redo.specs.State.{state_after, transactions};
 ghost use Rattle.recovery_conflict.specs.Held.{locks_after};
 ghost use Rattle.standby_core.specs.Pages.{AreDescribed};
+ghost use Rattle.standby_core.specs.Horizon.{oldest_asked, parents_kept};
 ghost use Rattle.standby_core.specs.Replay.{awaited_after, redo_refusal};
 ghost use Rattle.standby_core.specs.Steps.{TypedRedone, body_refusal, stopped_by, unread};
 
@@ -17,15 +18,16 @@ use crate::types::{NodeFault, NodeStatus, Origin, Passed, Refusal, Replayed, Sto
 use heap_redo::RedoFault;
 use outside::Archive;
 use page_store::Pool;
-use pg_types::{Lsn, NoMemory, Tli};
+use pg_types::{Lsn, NoMemory, Tli, Xid};
 use recovery_conflict::Locks;
+use standby_snapshot::xmin;
 use std::alloc::Global;
 use table_schema::Tables;
 use wal_archive::ArchiveLog;
 use wal_bodies::{BodyFault, Rec, RecKind, body};
 use wal_reader::{Next, ReadFault, Reader};
 use wal_record::PrevRule;
-use xact_redo::{XactState, reserve};
+use xact_redo::{XactState, ends_ids, reserve};
 
 /// A standby's node. Contracts see the blocks of the described tables, the state of transactions, where
 /// replay stands and after which record, the end of the backup that is awaited, the open scans, the locks in force
@@ -211,8 +213,9 @@ impl Node {
         }
     }
 
-    /// Changes the blocks, the state of transactions and the locks by the record that the reader gave last, cancels
-    /// the scans that it conflicts with, and marks the tables that it drops.
+    /// Changes the blocks, the state of transactions and the locks by the record that the reader gave last, forgets the
+    /// parents that no snapshot may ask for, cancels the scans that the record conflicts with, and marks the tables that
+    /// it drops.
     #[tactic(auto, unfolding(crate::specs::View::standby))]
     fn redo(&mut self, start: Lsn, end: Lsn) -> Result<Passed, Stopped>
         requires { Gives self.old.reader start end }
@@ -231,6 +234,7 @@ impl Node {
                     &mut self.state,
                     &mut self.locks,
                 )?;
+                forget_parents(&rec, &self.scans, &mut self.state);
                 let cancelled = self.scans.cancel(&rec, &self.tables);
                 mark_dropped(&rec, known, &mut self.gone);
                 let awaited = awaited_after(&rec.kind, self.awaited);
@@ -279,6 +283,27 @@ fn redo_typed(
     xact_redo::redo(rec, state);
     locks.redo(rec);
     Ok(())
+}
+
+/// After a record that ends ids, forgets the parents of the subtransactions of which neither an open scan's snapshot nor
+/// one that is taken from here on may ask (`TruncateSUBTRANS`). It takes no memory: one look at each open scan, and what
+/// `XactState::forget_below` costs.
+#[tactic(auto, unfolding(crate::specs::Horizon::parents_kept))]
+fn forget_parents(rec: &Rec<'_>, scans: &Scans, state: &mut XactState)
+    ensures { transactions state.new ≡ parents_kept rec.now scans.now.open.items (transactions state.old) }
+{
+    if ends_ids(rec) {
+        let oldest = oldest_asked(scans, state);
+        state.forget_below(oldest);
+    }
+}
+
+/// The least id of which an open scan's snapshot, or one that is taken from here on, may ask whether it is in progress.
+#[tactic(auto, unfolding(xact_redo::specs::State::transactions))]
+fn oldest_asked(scans: &Scans, state: &XactState) -> Xid
+    ensures { result.0 ≡ oldest_asked (transactions state.now) scans.now.open.items }
+{
+    scans.least_xmin(xmin(&state.known))
 }
 
 /// Where the backup began whose end is awaited after a record of this kind.

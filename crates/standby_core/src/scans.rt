@@ -82,6 +82,7 @@ impl Scans {
     ghost use Rattle.standby_core.specs.Standby.{Standby};
     ghost use Rattle.standby_core.specs.declared.scans.NodeScan.{NodeScan};
     ghost use Rattle.standby_core.specs.Conflicts.{cancelled_by, newly_cancelled};
+    ghost use Rattle.standby_core.specs.Horizon.{least_xmin};
     ghost use Rattle.standby_core.specs.Scans.{GivesPage, IsGivenBelow, IsPrintedBelow, PrintsPage, scan_with, without};
     ghost use Rattle.standby_core.specs.Pages.{AreDescribed, ReadsFrom, has_id, with_scans};
 
@@ -108,6 +109,17 @@ impl Scans {
         ensures { result ≡ (nat_le 64 (length self.now.open.items) || nat_lt (2 ^ 63) self.now.next_id) }
     {
         self.open.len() >= MOST || self.next_id > LAST_ID
+    }
+
+    /// The least xmin of the open ones, and at most `most`.
+    pub fn least_xmin(&self, most: Xid) -> Xid
+        ensures { result.0 ≡ least_xmin most.0 self.now.open.items }
+    {
+        let mut least = most.0;
+        for one in self.open.iter() {
+            least = least.min(one.scan.xmin().0);
+        }
+        Xid(least)
     }
 
     /// Adds a scan, and gives its id.

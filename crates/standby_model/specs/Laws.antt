@@ -1,7 +1,7 @@
 -- What the definitions promise together.
 use Rattle.std.specs.Prelude.{◌≡◌, ◌<◌, ℕ, List, [], ◌∷◌}
 use Rattle.wal_reader.specs.Told.{Told}
-use Rattle.wal_bodies.specs.declared.types.Rec.{Rec}
+use Rattle.typed_records.specs.declared.types.Rec.{Rec}
 use Rattle.wal_bodies.specs.Ends.{end_of, Rises}
 use Rattle.standby_model.specs.Log.{Described, IsLog, Stands, Stop}
 

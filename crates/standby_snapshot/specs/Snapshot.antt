@@ -56,7 +56,3 @@ in_progress snapshot topmost x =
     if nat_lt x snapshot.xmin then false
     else if nat_le snapshot.xmax x then true
     else is_running snapshot topmost x
-
--- no subtransaction's parent is known
-abbrev pub no_parents : ℕ → ℕ
-no_parents x = x

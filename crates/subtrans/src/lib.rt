@@ -49,12 +49,12 @@ impl Subtrans {
     }
 
     /// Makes room for so many pairs. On want of memory all stays as it was.
-    pub fn reserve(&mut self, more: u32) -> Result<(), NoMemory>
+    pub fn reserve(&mut self, more: usize) -> Result<(), NoMemory>
         ensures pairs { self.new.pairs ≡ self.old.pairs }
         ensures ok { OnOk result (more ≤ self.new.spare) }
         ensures kept { self.old.spare ≤ self.new.spare }
     {
-        self.pairs.reserve(more as usize)?;
+        self.pairs.reserve(more)?;
         Ok(())
     }
 

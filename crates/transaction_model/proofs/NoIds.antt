@@ -1,5 +1,5 @@
 -- A running record that lists nothing, statuses of which none is kept, and a list of one id.
-use Rattle.std.proofs.Common.{◌≡◌, ℕ, ◌+◌, ◌<◌, ◌≤◌, true, false, ◌==◌, ◌||◌, List, [], ◌∷◌, arith, refl, inl, inr}
+use Rattle.std.proofs.Common.{◌≡◌, ℕ, ◌+◌, ◌≤◌, true, false, ◌==◌, ◌||◌, List, [], ◌∷◌, arith, refl, inl, inr}
 use Rattle.std.proofs.lemmas.Bool.{eq-eqb, eqb-true, false_from_ne_true, false≢true, or_cases, or_from, or_left}
 use Rattle.known_assigned.specs.Ids.{is_among}
 use Rattle.known_assigned.specs.declared.state.RunningHead.{RunningHead}

@@ -337,6 +337,13 @@ effect_rises shows k xid (Shutdown next) r = shutdown_rises k.known next
 effect_rises shows k xid (Online redo next) r = r
 effect_rises shows k xid Other r = r
 
+pub replay_rises :
+    (shows : ℕ → Bool) (k : StandbyState) (xid : ℕ) (kind : Kind) → Rising k.known.xids
+    → Rising (replay shows xid kind k).known.xids
+replay_rises shows k xid kind r =
+    let last : ℕ = last_named xid kind in
+    effect_rises shows (record k { known = after_observe k.known last }) xid kind (observe_rises k.known last r)
+
 -- one record of a legal log
 pub standing_after :
     (o : TransactionOrigin) (shows shows' : ℕ → Bool) (k : StandbyState) (r : TransactionRecord) (older : List TransactionRecord)
@@ -357,7 +364,7 @@ standing_after o shows shows' k r older legal st more now =
           (live_top o (r ∷ older) legal) (observe_kept o shows k.known (parent_in k.parents) older st.kept last)
           (observe_reaches k.known last) below more now;
       agree = effect_agrees o shows seen r.start r.end r.xid r.kind older rule st.agree;
-      rising = effect_rises shows seen r.xid r.kind (observe_rises k.known last st.rising);
+      rising = replay_rises shows k r.xid r.kind st.rising;
       unassigned = λ n next. effect_unassigned o shows seen r.start r.end r.xid r.kind older rule n next (below n next);
     }
 

@@ -1,17 +1,16 @@
 -- The laws of the snapshot, from the invariant along a life.
 use Rattle.std.proofs.Common.{◌≡◌, ℕ, ◌≤◌, Bool, true, false, ◌&&◌, not, cond, List, [], ◌∷◌, ◌++◌, Option, Some, None, arith, refl, sym, ap, ◌∙◌, inl, inr, ◌⊎◌, subst, nat_lt}
-use Rattle.std.proofs.lemmas.Bool.{or_cases, or_parts, true≢false, cases_Bool, cond_both, both_ways, ltb-true}
-use Rattle.std.specs.List.{list_any}
+use Rattle.std.proofs.lemmas.Bool.{or_cases, cases_Bool, cond_both, both_ways, ltb-true}
 use Rattle.known_assigned.specs.declared.state.State.TheVariants.{Ready}
 use Rattle.known_assigned.specs.Ids.{is_among}
-use Rattle.standby_snapshot.specs.Snapshot.{SnapshotData, in_progress, no_parents, take_of, xmin_of}
+use Rattle.standby_snapshot.specs.Snapshot.{in_progress, take_of, xmin_of}
 use Rattle.transaction_model.specs.Transactions.{Kind, Commit, Abort, Assignment, Running, Shutdown, Online, Other, TransactionRecord, Statuses, finishes, committed, ended, Live, state_of}
 use Rattle.transaction_model.specs.LegalTransactions.{TransactionOrigin, Legal}
-use Rattle.transaction_model.specs.StandbyStates.{Leads, LeadsOn, StandbyState, forget_below, replay, set_parents, shown}
+use Rattle.transaction_model.specs.StandbyStates.{Leads, LeadsOn, StandbyState, replay, set_parents, shown}
 use Rattle.subtrans.specs.declared.Pair.{Pair}
 use Rattle.subtrans.specs.Parents.{from_sub, topmost_of}
 use Rattle.transaction_model.proofs.ParentLists.{from_sub_is, parent_in, set_parents_is}
-use Rattle.transaction_model.specs.TransactionLaws.{ShowsFinished, IsCaughtUp, NoneAssigned, IdsDecide, is_assignment, XminAgrees, LiveInProgress, SnapshotDecides}
+use Rattle.transaction_model.specs.TransactionLaws.{ShowsFinished, IsCaughtUp, XminAgrees, LiveInProgress, SnapshotDecides}
 use Rattle.transaction_model.proofs.Endings.{legal_rest, legal_before, ended_by, ended_later, finishes_ends, committed_no_more}
 use Rattle.transaction_model.proofs.Replayed.{Standing, standing_after, standing_forgotten, standing_along, shown_more, shown_now}
 use Rattle.transaction_model.proofs.States.{state_agrees}
@@ -148,60 +147,3 @@ live_progress o first old life more k now legal shows caught ready leads on x l 
 pub snapshot_decides : SnapshotDecides
 snapshot_decides o first old life more k now legal shows caught ready leads on x =
     decided o first old life more k now legal shows caught ready leads on x
-
--- without assignments no parent is known
-none_set :
-    (shows : ℕ → Bool) (xid : ℕ) (kind : Kind) (k : StandbyState) → is_assignment kind ≡ false → k.parents ≡ []
-    → (replay shows xid kind k).parents ≡ []
-none_set shows xid (Commit subs) k h e = e
-none_set shows xid (Abort subs) k h e = e
-none_set shows xid (Assignment top subs) k h e = absurd (true≢false h)
-none_set shows xid (Running head xids) k h e = e
-none_set shows xid (Shutdown next) k h e = e
-none_set shows xid (Online redo next) k h e = e
-none_set shows xid Other k h e = e
-
-none_left :
-    (shows : ℕ → Bool) (r : TransactionRecord) (was now : StandbyState) (bound : ℕ) → is_assignment r.kind ≡ false
-    → was.parents ≡ [] → now ≡ forget_below bound (replay shows r.xid r.kind was) → now.parents ≡ []
-none_left shows r was now bound h e is =
-    ap (λ (m : StandbyState). m.parents) is
-    ∙ ap (λ (pairs : List Pair). from_sub pairs bound) (none_set shows r.xid r.kind was h e)
-
-none_led :
-    (first : ℕ → Bool) (life : List TransactionRecord) (k : StandbyState) → NoneAssigned life → Leads first life k
-    → k.parents ≡ []
-none_led first [] k none leads = ap (λ (m : StandbyState). m.parents) leads
-none_led first (r ∷ life) k none (was, bound, leads, free, is) =
-    let (h, rest) =
-    or_parts (is_assignment r.kind) (list_any (λ (q : TransactionRecord). is_assignment q.kind) life) none in
-    none_left (shown first life) r was k bound h (none_led first life was rest leads) is
-
-none_on :
-    (first : ℕ → Bool) (life more : List TransactionRecord) (k now : StandbyState) (xmin : ℕ)
-    → NoneAssigned (more ++ life) → k.parents ≡ [] → LeadsOn first life k xmin more now → now.parents ≡ []
-none_on first life [] k now xmin none e on = ap (λ (m : StandbyState). m.parents) on ∙ e
-none_on first life (r ∷ more) k now xmin none e (was, bound, on, free, low, is) =
-    let (h, rest) =
-    or_parts (is_assignment r.kind) (list_any (λ (q : TransactionRecord). is_assignment q.kind) (more ++ life)) none in
-    none_left (shown first (more ++ life)) r was now bound h (none_on first life more k was xmin rest e on) is
-
-none_of_life :
-    (life more : List TransactionRecord) → NoneAssigned (more ++ life) → NoneAssigned life
-none_of_life life [] none = none
-none_of_life life (r ∷ more) none =
-    none_of_life life more
-    (or_parts (is_assignment r.kind) (list_any (λ (q : TransactionRecord). is_assignment q.kind) (more ++ life)) none).1
-
-no_parents_lead : (s : SnapshotData) (x : ℕ) → in_progress s (topmost_of []) x ≡ in_progress s no_parents x
-unfolding topmost_of
-no_parents_lead s x = refl
-
-pub ids_decide : IdsDecide
-ids_decide o first old life more k now legal shows caught ready leads on none x =
-    let gone : now.parents ≡ [] =
-    none_on first life more k now (take_of k.known).xmin none (none_led first life k (none_of_life life more none) leads) on in
-    let same : in_progress (take_of k.known) (topmost_of now.parents) x ≡ in_progress (take_of k.known) no_parents x =
-    ap (λ (pairs : List Pair). in_progress (take_of k.known) (topmost_of pairs) x) gone ∙ no_parents_lead (take_of k.known) x in
-    ap (λ (t : Bool). not t && committed o.at x ((more ++ life) ++ old)) (sym same)
-    ∙ decided o first old life more k now legal shows caught ready leads on x

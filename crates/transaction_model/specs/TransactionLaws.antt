@@ -1,10 +1,9 @@
 -- What the rules of running transactions and snapshots promise over a legal log.
-use Rattle.std.specs.Prelude.{◌≡◌, ℕ, Bool, true, false, ◌&&◌, not, List, ◌++◌}
-use Rattle.std.specs.List.{list_any}
-use Rattle.standby_snapshot.specs.Snapshot.{in_progress, no_parents, take_of}
+use Rattle.std.specs.Prelude.{◌≡◌, ℕ, Bool, true, ◌&&◌, not, List, ◌++◌}
+use Rattle.standby_snapshot.specs.Snapshot.{in_progress, take_of}
 use Rattle.subtrans.specs.Parents.{topmost_of}
 use Rattle.known_assigned.specs.declared.state.State.TheVariants.{Ready}
-use Rattle.transaction_model.specs.Transactions.{Abort, Assignment, Commit, Kind, Online, Other, Running, Shutdown, TransactionRecord, Statuses, committed, finished, ended, Live, state_of, IsXmin}
+use Rattle.transaction_model.specs.Transactions.{TransactionRecord, Statuses, committed, finished, ended, Live, state_of, IsXmin}
 use Rattle.transaction_model.specs.LegalTransactions.{IsNext, Legal, TransactionOrigin}
 use Rattle.transaction_model.specs.Promotions.{assigned_anew, promoted, promotion_next}
 use Rattle.transaction_model.specs.StandbyStates.{Leads, LeadsOn, StandbyState}
@@ -47,29 +46,6 @@ SnapshotDecides =
     → state_of life ≡ Ready → Leads first life k → LeadsOn first life k (take_of k.known).xmin more now
     → (x : ℕ)
     → (not (in_progress (take_of k.known) (topmost_of now.parents) x) && committed o.at x ((more ++ life) ++ old))
-    ≡ committed o.at x (life ++ old)
-
--- no record of these assigns subtransactions
-abbrev pub is_assignment : Kind → Bool
-is_assignment (Assignment top subs) = true
-is_assignment (Commit subs) = false
-is_assignment (Abort subs) = false
-is_assignment (Running head xids) = false
-is_assignment (Shutdown next) = false
-is_assignment (Online redo next) = false
-is_assignment Other = false
-
-abbrev pub NoneAssigned : List TransactionRecord → Type 0
-NoneAssigned log = list_any (λ (r : TransactionRecord). is_assignment r.kind) log ≡ false
-
--- where none was assigned the ids alone decide
-abbrev pub IdsDecide : Type 0
-IdsDecide =
-    (o : TransactionOrigin) (first : ℕ → Bool) (old life more : List TransactionRecord) (k now : StandbyState)
-    → Legal o ((more ++ life) ++ old) → ShowsFinished o.at first old → IsCaughtUp o.at first (life ++ old)
-    → state_of life ≡ Ready → Leads first life k → LeadsOn first life k (take_of k.known).xmin more now
-    → NoneAssigned (more ++ life) → (x : ℕ)
-    → (not (in_progress (take_of k.known) no_parents x) && committed o.at x ((more ++ life) ++ old))
     ≡ committed o.at x (life ++ old)
 
 -- one xmin stands at a position

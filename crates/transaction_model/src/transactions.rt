@@ -1,7 +1,7 @@
 //! What the rules of running transactions and of snapshots promise over a legal log, with overflowed and pending
 //! snapshots, parents that are forgotten, and a commit log that is ahead of the position.
 
-ghost use Rattle.transaction_model.specs.TransactionLaws.{OneXmin, StateAgrees, XminAgrees, LiveInProgress, SnapshotDecides, IdsDecide, PromotionLegal};
+ghost use Rattle.transaction_model.specs.TransactionLaws.{OneXmin, StateAgrees, XminAgrees, LiveInProgress, SnapshotDecides, PromotionLegal};
 ghost use Rattle.transaction_model.specs.WorkedLife.{IsWorkedLife};
 
 /// One xmin stands at a position.
@@ -27,11 +27,6 @@ pub fn live_in_progress()
 /// What a snapshot and a later commit log say of an id together is what the log said at the opening.
 pub fn snapshot_decides()
     ensures { SnapshotDecides }
-{}
-
-/// The same of a life without assignments, where a snapshot's ids alone decide.
-pub fn ids_decide()
-    ensures { IdsDecide }
 {}
 
 /// A legal log with the two records that a promotion adds is legal again.

@@ -1,8 +1,8 @@
 -- The transaction ids of a record's main data are of 32 bits.
-use Rattle.std.proofs.Common.{◌≡◌, ℕ, zero, suc, ◌+◌, ◌^◌, ◌<◌, ◌==◌, Bool, true, false, cond, not, nat_le, List, [], ◌∷◌, All, drop, slice_index, Option, Some, None, Result, Ok, Err, IfOk, refl, sym, subst, arith}
+use Rattle.std.proofs.Common.{◌≡◌, ℕ, zero, suc, ◌+◌, ◌^◌, ◌<◌, ◌==◌, Bool, true, false, cond, not, nat_le, nat_lt, length, List, [], ◌∷◌, All, drop, slice_index, Option, Some, None, Result, Ok, Err, IfOk, refl, sym, subst, arith}
 use Rattle.std.specs.List.{list_any}
 use Rattle.std.proofs.lemmas.Bool.{cond_both, leb-false, or_parts}
-use Rattle.std.proofs.lemmas.List.Elements.{All-cons, All-nil}
+use Rattle.std.proofs.lemmas.List.Elements.{All-cons, All-head, All-nil}
 use Rattle.pg_types.specs.Bytes.{AreBytes}
 use Rattle.pg_types.specs.Numbers.{number_at}
 use Rattle.pg_types.specs.declared.names.Lsn.{Lsn}
@@ -11,16 +11,17 @@ use Rattle.pg_types.specs.declared.names.Xid.{Xid}
 use Rattle.wal_record.specs.declared.types.RecordHead.{RecordHead}
 use Rattle.pg_types.specs.declared.names.Locator.{Locator}
 use Rattle.wal_record.specs.Record.{Block, Record}
-use Rattle.wal_bodies.specs.declared.types.BodyFault.{BodyFault}
-use Rattle.wal_bodies.specs.declared.types.BodyFault.TheVariants.{Unsupported}
-use Rattle.wal_bodies.specs.declared.types.What.TheVariants.{Epoch}
-use Rattle.wal_bodies.specs.declared.types.RecKind.{RecKind}
-use Rattle.wal_bodies.specs.declared.types.RecKind.TheVariants.{Checkpoint, Ended, Running}
-use Rattle.wal_bodies.specs.Fields.{◌>>=◌, main_block, needed, xid_at, xids_at}
-use Rattle.wal_bodies.specs.Kinds.{backup_end, checkpoint, database_kind, ended, kind_of, later, locks, count_from, overwrite, page_writes, parameters, parts_by, running, standby_kind, storage_kind, time_from, xact_kind, xinfo_from, xlog_kind}
+use Rattle.typed_records.specs.declared.types.BodyFault.{BodyFault}
+use Rattle.typed_records.specs.declared.types.BodyFault.TheVariants.{Length, Unsupported}
+use Rattle.typed_records.specs.declared.types.What.TheVariants.{Epoch}
+use Rattle.typed_records.specs.declared.types.RecKind.{RecKind}
+use Rattle.typed_records.specs.declared.types.RecKind.TheVariants.{Assignment, Checkpoint, Ended, Running}
+use Rattle.wal_bodies.specs.Fields.{◌>>=◌, main_block, needed, needed_number, xid_at, xids_at}
+use Rattle.wal_bodies.specs.Kinds.{assignment, backup_end, checkpoint, counted_xids, database_kind, ended, kind_of, later, locks, count_from, overwrite, page_writes, parameters, parts_by, running, standby_kind, storage_kind, time_from, xact_kind, xinfo_from, xlog_kind}
 use Rattle.wal_bodies.specs.HeapKinds.{by_block, confirm, delete, freeze, freeze_plans, freeze_with, heap2_kind, heap_kind, in_place, insert, lock, lock_updated, multi_insert, multi_insert_of, prune, prune_lists, prune_with, update, vacuum, vacuum_lines, vacuum_with, visible}
-use Rattle.wal_bodies.specs.Typed.{ended_in, is_last, names_last}
+use Rattle.wal_bodies.specs.Typed.{listed_in, is_last, names_last}
 use Rattle.wal_bodies.specs.Xids.{IsShort, kind_xids, record_xids}
+use Rattle.wal_record.specs.Parts.{number_from}
 use Rattle.pg_types.proofs.Bytes.{bytes-are, number-fits}
 
 -- ids that stand one after another
@@ -30,9 +31,11 @@ xids_short bytes at zero all = All-nil IsShort
 xids_short bytes at (suc n) all =
     All-cons IsShort (xid_at bytes at) (xids_at bytes (at + 4) n) (number-fits 4 bytes at all) (xids_short bytes (at + 4) n all)
 
--- the ids of a running record and the next one of a checkpoint; those that ended are looked at apart
+-- the ids of a running record, the top transaction of an assignment and the next one of a checkpoint; those that ended or
+-- were assigned are looked at apart
 abbrev told_xids : RecKind → List Xid
 told_xids (Running tops subs overflow next oldest latest xids) = next ∷ oldest ∷ latest ∷ xids
+told_xids (Assignment top xids) = top ∷ []
 told_xids (Checkpoint redo timeline previous writes next multi member oldest active) = next ∷ []
 told_xids _ = []
 
@@ -93,10 +96,28 @@ unfolding ended
 ended_fits info main =
     bound (time_from main) _ (λ time. bound (xinfo_from info time.1) _ (λ xinfo. bound (parts_by xinfo.0 xinfo.1) _ (λ parts. none _ refl)))
 
-xact_fits : (info : ℕ) (main : List ℕ) → Fits (xact_kind info main)
+-- a number of four bytes at the front
+assigned_fits :
+    (main : List ℕ) (short : Bool) (top : ℕ) (f : ℕ × List ℕ → Result RecKind BodyFault) (rest : List ℕ)
+    → Fits (f (top, rest)) → Fits (needed (cond short None (Some (top, rest))) >>= f)
+assigned_fits main true top f rest fit = refused Length
+assigned_fits main false top f rest fit = fit
+
+assignment_fits : (main : List ℕ) → AreBytes main → Fits (assignment main)
+unfolding assignment needed_number number_from
+assignment_fits main all =
+    assigned_fits main (nat_lt (length main) 4) (number_at 4 main 0) _ (drop 4 main)
+    (bound (counted_xids (drop 4 main)) _
+    (λ subs.
+    record {
+      fits =
+          All-cons IsShort (record { 0 = number_at 4 main 0 }) [] (number-fits 4 main 0 all) (All-nil IsShort);
+    }))
+
+xact_fits : (info : ℕ) (main : List ℕ) → AreBytes main → Fits (xact_kind info main)
 unfolding xact_kind
-xact_fits info main =
-    search (either, refused, none, ended_fits) depth 12
+xact_fits info main all =
+    search (either, refused, none, ended_fits, assignment_fits) depth 12
 
 running_told : (tops subs : ℕ) (overflow : Bool) (next oldest latest : Xid) (xids : List Xid)
     → IsShort next → IsShort oldest → IsShort latest → All IsShort xids → Fits (Ok (Running tops subs overflow next oldest latest xids))
@@ -270,10 +291,13 @@ none_last (xid ∷ xids) e =
     All-cons IsShort xid xids (below_last xid parts.0) (none_last xids parts.1)
 
 own_short : (head : RecordHead) (kind : RecKind) → names_last head kind ≡ false → IsShort head.xid
-own_short head kind e = below_last head.xid (or_parts (is_last head.xid) (list_any is_last (ended_in kind)) e).0
+own_short head kind e = below_last head.xid (or_parts (is_last head.xid) (list_any is_last (listed_in kind)) e).0
 
 all_short : (head : RecordHead) (kind : RecKind) → names_last head kind ≡ false → All IsShort (told_xids kind) → All IsShort (kind_xids kind)
 all_short head (Ended time xinfo xids files) e told = none_last xids (or_parts (is_last head.xid) (list_any is_last xids) e).1
+all_short head (Assignment top xids) e told =
+    let parts = or_parts (is_last head.xid) (list_any is_last xids) e in
+    All-cons IsShort top xids (All-head IsShort top [] told) (none_last xids parts.1)
 all_short head (Running tops subs overflow next oldest latest xids) e told = told
 all_short head (Checkpoint redo timeline previous writes next multi member oldest active) e told = told
 all_short head _ e told = All-nil IsShort

@@ -1,6 +1,6 @@
 -- Where the records of a log end, the newest record first.
 use Rattle.std.specs.Prelude.{ℕ, ◌<◌, List, [], ◌∷◌}
-use Rattle.wal_bodies.specs.declared.types.Rec.{Rec}
+use Rattle.typed_records.specs.declared.types.Rec.{Rec}
 
 -- where the last record ends, or the position from which on the log is read
 abbrev pub end_of : ℕ → List Rec → ℕ

@@ -5,11 +5,11 @@ use Rattle.std.specs.List.{list_any}
 use Rattle.pg_types.specs.Numbers.{number_at, has_bits}
 use Rattle.pg_types.specs.declared.names.Locator.{Locator}
 use Rattle.wal_record.specs.Record.{Block, Record}
-use Rattle.wal_bodies.specs.declared.types.BodyFault.{BodyFault}
-use Rattle.wal_bodies.specs.declared.types.BodyFault.TheVariants.{Length, Unsupported}
-use Rattle.wal_bodies.specs.declared.types.What.TheVariants.{InPlace, NotYet}
-use Rattle.wal_bodies.specs.declared.types.RecKind.{RecKind}
-use Rattle.wal_bodies.specs.declared.types.RecKind.TheVariants.{Insert, Delete, Update, Confirm, Lock, MultiInsert, LockUpdated, Prune, Vacuum, Freeze, Visible, Other}
+use Rattle.typed_records.specs.declared.types.BodyFault.{BodyFault}
+use Rattle.typed_records.specs.declared.types.BodyFault.TheVariants.{Length, Unsupported}
+use Rattle.typed_records.specs.declared.types.What.TheVariants.{InPlace, NotYet}
+use Rattle.typed_records.specs.declared.types.RecKind.{RecKind}
+use Rattle.typed_records.specs.declared.types.RecKind.TheVariants.{Insert, Delete, Update, Confirm, Lock, MultiInsert, LockUpdated, Prune, Vacuum, Freeze, Visible, Other}
 use Rattle.wal_bodies.specs.Fields.{◌>>=◌, xid_at, lines_at, first_lines, redirects_at, plans_at, planned_lines, main_block, needed}
 use Rattle.wal_bodies.specs.Tuples.{is_applied}
 use Rattle.pg_types.specs.Locators.{same_locator}

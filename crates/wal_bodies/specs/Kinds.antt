@@ -5,11 +5,11 @@ use Rattle.pg_types.specs.Numbers.{number_at, has_bits}
 use Rattle.pg_types.specs.declared.names.Locator.{Locator}
 use Rattle.pg_types.specs.declared.names.Xid.{Xid}
 use Rattle.wal_record.specs.Record.{Record}
-use Rattle.wal_bodies.specs.declared.types.BodyFault.{BodyFault}
-use Rattle.wal_bodies.specs.declared.types.BodyFault.TheVariants.{Length, Unsupported}
-use Rattle.wal_bodies.specs.declared.types.What.TheVariants.{Prepared, Minimal, PageWrites, Database, Epoch, NotYet}
-use Rattle.wal_bodies.specs.declared.types.RecKind.{RecKind}
-use Rattle.wal_bodies.specs.declared.types.RecKind.TheVariants.{Checkpoint, BackupEnd, Parameters, FullPageWrites, Images, Overwrite, Ended, Running, Truncate, Locks, Other}
+use Rattle.typed_records.specs.declared.types.BodyFault.{BodyFault}
+use Rattle.typed_records.specs.declared.types.BodyFault.TheVariants.{Length, Unsupported}
+use Rattle.typed_records.specs.declared.types.What.TheVariants.{Prepared, Minimal, PageWrites, Database, Epoch, NotYet}
+use Rattle.typed_records.specs.declared.types.RecKind.{RecKind}
+use Rattle.typed_records.specs.declared.types.RecKind.TheVariants.{Checkpoint, BackupEnd, Parameters, FullPageWrites, Images, Overwrite, Ended, Assignment, Running, Truncate, Locks, Other}
 use Rattle.wal_bodies.specs.Fields.{◌>>=◌, lsn_at, tli_at, xid_at, xids_at, locator_at, locators_at, lock_entries_at, needed_number, behind}
 use Rattle.wal_bodies.specs.HeapKinds.{heap_kind, heap2_kind}
 
@@ -121,23 +121,28 @@ ended info main = do
   parts ← parts_by xinfo.0 xinfo.1
   Ok (Ended time.0 xinfo.0 parts.0 parts.1)
 
+-- subtransactions that are assigned to a top-level transaction (xl_xact_assignment, xact.h)
+unfoldable pub assignment : List ℕ → Result RecKind BodyFault
+assignment main = do
+  top ← needed_number 4 main
+  subs ← counted_xids top.1
+  Ok (Assignment (record { 0 = top.0 }) subs.0)
+
 -- manager 1, transactions (xact.h, XLOG_XACT_OPMASK): two-phase commit is not supported
 unfoldable pub xact_kind : ℕ → List ℕ → Result RecKind BodyFault
 xact_kind info main =
     if (bit_and info 0x70 == 0x00) || (bit_and info 0x70 == 0x20) then ended info main
-    else if bit_and info 0x70 == 0x50 then Err (Unsupported NotYet)
+    else if bit_and info 0x70 == 0x50 then assignment main
     else if (bit_and info 0x70 == 0x10) || (bit_and info 0x70 == 0x30) || (bit_and info 0x70 == 0x40)
     then Err (Unsupported Prepared)
     else Ok Other
 
 -- The transactions that are running (xl_running_xacts, standbydefs.h). Their number is that of the
--- top-level ones and the subtransactions. Subtransactions that overflowed count where a top-level id
--- is there, and are not read yet.
+-- top-level ones and the subtransactions.
 unfoldable pub running : List ℕ → Result RecKind BodyFault
 running main =
     if nat_lt (length main) 24 then Err Length
     else if nat_le 2147483648 (number_at 4 main 0) || nat_le 2147483648 (number_at 4 main 4) then Err Length
-    else if not (slice_index main 8 == 0) && nat_lt 0 (number_at 4 main 0) then Err (Unsupported NotYet)
     else if nat_lt (length main) (24 + 4 * (number_at 4 main 0 + number_at 4 main 4)) then Err Length
     else Ok (Running
     (number_at 4 main 0) (number_at 4 main 4) (not (slice_index main 8 == 0))

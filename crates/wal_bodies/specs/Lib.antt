@@ -1,9 +1,9 @@
+pub mod Blocks
 pub mod Ends
 pub mod Fields
 pub mod HeapKinds
 pub mod Kinds
 pub mod Laws
-pub mod Stored
 pub mod Tuples
 pub mod Typed
 pub mod Xids

@@ -1,25 +1,15 @@
 -- The tuples that a record puts into its block 0 (heapam_xlog.h, xl_heap_header and
 -- xl_multi_insert_tuple; heapam.c, heap_xlog_insert and its like).
-use Rattle.std.specs.Prelude.{ℕ, zero, suc, ◌+◌, ◌-◌, ◌%◌, Bool, false, nat_lt, ◌&&◌, ◌||◌, List, [], ◌∷◌, length, drop, take, slice_index, Option, Some, None, is_some, Result, Ok, Err, if◌then◌else◌}
-use Rattle.pg_types.specs.Numbers.{number_at, has_bits}
+use Rattle.std.specs.Prelude.{ℕ, ◌+◌, ◌-◌, Bool, false, nat_lt, ◌&&◌, ◌||◌, List, [], ◌∷◌, length, drop, slice_index, Option, Some, None, is_some, Result, Ok, Err, if◌then◌else◌}
+use Rattle.pg_types.specs.Numbers.{has_bits}
 use Rattle.wal_record.specs.Record.{Image, Block, Record}
-use Rattle.wal_bodies.specs.declared.types.BodyFault.{BodyFault}
-use Rattle.wal_bodies.specs.declared.types.BodyFault.TheVariants.{Length}
-use Rattle.wal_bodies.specs.declared.types.NewTuple.{NewTuple}
-use Rattle.wal_bodies.specs.declared.types.RecKind.{RecKind}
-use Rattle.wal_bodies.specs.declared.types.RecKind.TheVariants.{Checkpoint, BackupEnd, Parameters, FullPageWrites, Images, Overwrite, Ended, Running, Insert, Delete, Update, Confirm, Lock, MultiInsert, LockUpdated, Prune, Vacuum, Freeze, Visible, Truncate, Locks, Other}
+use Rattle.typed_records.specs.declared.types.BodyFault.{BodyFault}
+use Rattle.typed_records.specs.declared.types.BodyFault.TheVariants.{Length}
+use Rattle.typed_records.specs.declared.types.NewTuple.{NewTuple}
+use Rattle.typed_records.specs.declared.types.RecKind.{RecKind}
+use Rattle.typed_records.specs.declared.types.RecKind.TheVariants.{Checkpoint, BackupEnd, Parameters, FullPageWrites, Images, Overwrite, Ended, Assignment, Running, Insert, Delete, Update, Confirm, Lock, MultiInsert, LockUpdated, Prune, Vacuum, Freeze, Visible, Truncate, Locks, Other}
+use Rattle.typed_records.specs.Tuples.{tuple_with, listed_from}
 use Rattle.wal_bodies.specs.Fields.{◌>>=◌, needed_number, main_block, needed}
-
--- a tuple whose header's three fields stand at `at`, with these bytes behind them
-abbrev pub tuple_with : List ℕ → ℕ → ℕ → ℕ → List ℕ → NewTuple
-tuple_with bytes at prefix suffix rest = record {
-  mask2 = number_at 2 bytes at;
-  mask = number_at 2 bytes (at + 2);
-  hoff = slice_index bytes (at + 4);
-  prefix = prefix;
-  suffix = suffix;
-  rest = rest;
-}
 
 -- an insert's tuple: all that stands behind the fields
 unfoldable pub inserted : List ℕ → Result (List NewTuple) BodyFault
@@ -44,28 +34,6 @@ updated flags bytes = do
   prefix ← length_from flags 0x20 bytes
   suffix ← length_from flags 0x40 prefix.1
   replaced prefix.0 suffix.0 suffix.1
-
--- the next multiple of 2 (SHORTALIGN)
-abbrev pub even_from : ℕ → ℕ
-even_from at = at + at % 2
-
--- one tuple of a multi-insert, of which the number of bytes stands before its fields, and where it ends
-unfoldable pub listed_at : List ℕ → ℕ → Result (NewTuple × ℕ) BodyFault
-listed_at bytes at =
-    if nat_lt (length bytes) (at + 7) then Err Length
-    else if nat_lt (length bytes) (at + 7 + number_at 2 bytes at) then Err Length
-    else Ok (
-      tuple_with bytes (at + 2) 0 0 (take (number_at 2 bytes at) (drop (at + 7) bytes)),
-      at + 7 + number_at 2 bytes at,
-    )
-
--- n tuples of a multi-insert, each at a multiple of 2
-unfoldable pub listed_from : List ℕ → ℕ → ℕ → Result (List NewTuple) BodyFault
-listed_from bytes at zero = Ok []
-listed_from bytes at (suc n) = do
-  first ← listed_at bytes (even_from at)
-  others ← listed_from bytes first.1 n
-  Ok (first.0 ∷ others)
 
 -- an image that replay restores: the block's data is then not used
 abbrev pub is_applied : Option Image → Bool
@@ -113,6 +81,7 @@ tuples_of (FullPageWrites on) rec = Ok []
 tuples_of Images rec = Ok []
 tuples_of (Overwrite given_up time) rec = Ok []
 tuples_of (Ended time xinfo xids files) rec = Ok []
+tuples_of (Assignment top xids) rec = Ok []
 tuples_of (Running tops subs overflow next oldest latest xids) rec = Ok []
 tuples_of (Insert line flags) rec = insert_tuples rec
 tuples_of (Delete xmax line bits flags) rec = no_tuples rec

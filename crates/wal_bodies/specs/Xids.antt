@@ -2,13 +2,15 @@
 use Rattle.std.specs.Prelude.{◌<◌, ◌^◌, List, [], ◌∷◌, All}
 use Rattle.pg_types.specs.declared.names.Xid.{Xid}
 use Rattle.wal_record.specs.declared.types.RecordHead.{RecordHead}
-use Rattle.wal_bodies.specs.declared.types.Rec.{Rec}
-use Rattle.wal_bodies.specs.declared.types.RecKind.{RecKind}
-use Rattle.wal_bodies.specs.declared.types.RecKind.TheVariants.{Checkpoint, Ended, Running}
+use Rattle.typed_records.specs.declared.types.Rec.{Rec}
+use Rattle.typed_records.specs.declared.types.RecKind.{RecKind}
+use Rattle.typed_records.specs.declared.types.RecKind.TheVariants.{Assignment, Checkpoint, Ended, Running}
 
--- those of the main data: the ended ones, those of a running record, and the next one of a checkpoint
+-- those of the main data: the ended ones, the assigned ones with their top transaction, those of a running record, and the
+-- next one of a checkpoint
 abbrev pub kind_xids : RecKind → List Xid
 kind_xids (Ended time xinfo xids files) = xids
+kind_xids (Assignment top xids) = top ∷ xids
 kind_xids (Running tops subs overflow next oldest latest xids) = next ∷ oldest ∷ latest ∷ xids
 kind_xids (Checkpoint redo timeline previous writes next multi member oldest active) = next ∷ []
 kind_xids _ = []

@@ -2,11 +2,10 @@ ghost use Rattle.std.specs.Prelude.{◌≡◌, option_map};
 ghost use Rattle.wal_record.specs.Views.{block_of_view};
 ghost use Rattle.wal_bodies.specs.HeapKinds.{insert, delete, update, confirm, lock, lock_updated, multi_insert, multi_insert_of, is_described, in_place, heap_kind, heap2_kind};
 
-use crate::fields::main_block;
 use crate::removals::{freeze_of, prune_of, vacuum_of, visible};
-use crate::types::{BodyFault, RecKind, What};
 use pg_types::{Locator, u16_at};
 use record_fields::{Lines, xid_at};
+use typed_records::{BodyFault, RecKind, What, main_block};
 use wal_record::{BlockView, RecordView};
 
 /// Of the bits that a record has for the mark of a tuple: xmax is a multixact (`XLHL_XMAX_IS_MULTI`).

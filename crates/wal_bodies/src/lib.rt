@@ -2,27 +2,23 @@
 //! manager and its info (xlogrecord.h; the record structs of each manager, as heapam_xlog.h).
 #![tactic(auto)]
 
-mod blocks;
-mod fields;
 mod heap;
-mod new_tuples;
 mod rec;
 mod removals;
 mod running;
 mod storage;
 mod tuples;
 mod typed;
-mod types;
 mod xact;
 mod xlog;
 
-pub use blocks::RecBlocks;
 pub use heap::IS_MULTI;
-pub use new_tuples::NewTuples;
 pub use rec::one_form;
 pub use record_fields::{
     FreezePlan, FreezePlans, Lines, Locators, LockEntries, LockEntry, RecBytes, Redirect,
     Redirects, Xids,
 };
 pub use typed::body;
-pub use types::{BodyFault, NewTuple, Rec, RecBlock, RecImage, RecKind, What};
+pub use typed_records::{
+    BodyFault, NewTuple, NewTuples, Rec, RecBlock, RecBlocks, RecImage, RecKind, What,
+};

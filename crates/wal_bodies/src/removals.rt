@@ -2,11 +2,10 @@ ghost use Rattle.std.specs.Prelude.{◌≡◌, ◌≤◌, length};
 ghost use Rattle.wal_record.specs.Views.{block_of_view};
 ghost use Rattle.wal_bodies.specs.HeapKinds.{by_block, prune, prune_lists, vacuum, vacuum_lines, freeze, freeze_plans, visible};
 
-use crate::fields::main_block;
 use crate::tuples::is_applied;
-use crate::types::{BodyFault, RecKind};
 use pg_types::u16_at;
 use record_fields::{FreezePlans, Lines, Redirects, planned_lines, xid_at};
+use typed_records::{BodyFault, RecKind, main_block};
 use wal_record::{BlockView, RecordView};
 
 /// The lines of block 0 that a prune changes.

@@ -1,10 +1,10 @@
 ghost use Rattle.std.specs.Prelude.{◌≡◌};
 ghost use Rattle.wal_bodies.specs.Kinds.{running, locks, standby_kind, database_kind, later};
 
-use crate::types::{BodyFault, RecKind, What};
 use crate::xact::count_from;
 use pg_types::u32_at;
 use record_fields::{LockEntries, Xids, xid_at};
+use typed_records::{BodyFault, RecKind, What};
 
 /// The kinds of a standby's records, by the info's high four bits.
 #[tactic(auto, unfolding(crate::specs::Kinds::standby_kind))]
@@ -44,9 +44,6 @@ fn running<'a>(main: &'a [u8]) -> Result<RecKind<'a>, BodyFault>
     let subs = u32_at(main, 4);
     if 0x8000_0000 <= tops || 0x8000_0000 <= subs {
         return Err(BodyFault::Length);
-    }
-    if main[8] != 0 && 0 < tops {
-        return Err(BodyFault::Unsupported(What::NotYet));
     }
     let count = tops as usize + subs as usize;
     if main.len() < 24 + 4 * count {

@@ -1,9 +1,9 @@
 ghost use Rattle.std.specs.Prelude.{◌≡◌};
 ghost use Rattle.wal_bodies.specs.Kinds.{storage_kind};
 
-use crate::types::{BodyFault, RecKind};
 use pg_types::u32_at;
 use record_fields::{i32_at, locator_at};
+use typed_records::{BodyFault, RecKind};
 
 /// Of the flags of a truncation: the heap's own part is cut (`SMGR_TRUNCATE_HEAP`).
 const CUTS_HEAP: u32 = 0x01;

@@ -1,19 +1,17 @@
 ghost use Rattle.std.specs.Prelude.{◌≡◌, option_map};
 ghost use Rattle.wal_record.specs.Views.{block_of_view, image_of_view};
 ghost use Rattle.wal_bodies.specs.Fields.{needed_number, result_map};
-ghost use Rattle.wal_bodies.specs.Tuples.{inserted, length_from, replaced, updated, listed_from, is_applied, in_data, update_tuples, no_tuples, borrows, tuples_of, insert_tuples, multi_tuples};
-ghost use Rattle.wal_bodies.specs.Stored.{with_blocks, with_blocks_as};
+ghost use Rattle.typed_records.specs.Tuples.{listed_from};
+ghost use Rattle.wal_bodies.specs.Tuples.{inserted, length_from, replaced, updated, is_applied, in_data, update_tuples, no_tuples, borrows, tuples_of, insert_tuples, multi_tuples};
+ghost use Rattle.wal_bodies.specs.Blocks.{with_blocks, with_blocks_as};
 
-use crate::blocks::RecBlocks;
-use crate::fields::main_block;
-use crate::new_tuples::{NewTuples, listed_at};
-use crate::types::{BodyFault, RecKind};
 use pg_types::u16_at;
+use typed_records::{BodyFault, NewTuples, RecBlocks, RecKind, listed_at, main_block};
 use wal_record::{BlockView, RecordView};
 
 /// The blocks that redo of this kind changes, with the tuples that the record puts into its block 0, which a
 /// kind of the heap has to have.
-#[tactic(auto, unfolding(crate::specs::Tuples::tuples_of, crate::specs::Typed::ids_of, crate::specs::Typed::blocks_of, crate::specs::Typed::blocks_as))]
+#[tactic(auto, unfolding(crate::specs::Tuples::tuples_of, crate::specs::Typed::ids_of, typed_records::specs::Blocks::blocks_of, crate::specs::Typed::blocks_as))]
 pub(crate) fn blocks_of<'a>(
     kind: &RecKind<'a>,
     view: &'a RecordView<'a>,
@@ -51,7 +49,7 @@ fn insert_blocks<'a>(view: &'a RecordView<'a>) -> Result<RecBlocks<'a>, BodyFaul
     Ok(RecBlocks::of(view, 1, tuples))
 }
 
-#[tactic(auto, unfolding(crate::specs::Tuples::update_tuples, crate::specs::Typed::blocks_of, crate::specs::Typed::blocks_from))]
+#[tactic(auto, unfolding(crate::specs::Tuples::update_tuples, typed_records::specs::Blocks::blocks_of, typed_records::specs::Blocks::blocks_from))]
 fn update_blocks<'a>(flags: u8, view: &'a RecordView<'a>) -> Result<RecBlocks<'a>, BodyFault>
     ensures { result ≡ with_blocks 2 view.now (update_tuples flags view.now) }
 {

@@ -2,18 +2,17 @@ ghost use Rattle.std.specs.Prelude.{◌≡◌, All, IfOk};
 ghost use Rattle.std.specs.List.{list_any};
 ghost use Rattle.wal_bodies.specs.Kinds.{kind_of};
 ghost use Rattle.wal_bodies.specs.Xids.{AreXidsShort, IsShort, record_xids};
-ghost use Rattle.wal_bodies.specs.Typed.{is_last, ended_in, names_last, read_as, typed};
+ghost use Rattle.wal_bodies.specs.Typed.{is_last, listed_in, names_last, read_as, typed};
 
-use crate::blocks::RecBlocks;
 use crate::heap::{heap_kind, heap2_kind};
 use crate::running::{database_kind, later, standby_kind};
 use crate::storage::storage_kind;
 use crate::tuples::blocks_of;
-use crate::types::{BodyFault, Rec, RecKind, What};
 use crate::xact::xact_kind;
 use crate::xlog::xlog_kind;
 use pg_types::{Locator, Lsn, Xid};
 use record_fields::Xids;
+use typed_records::{BodyFault, Rec, RecBlocks, RecKind, What};
 use wal_record::{RecordHead, RecordView};
 
 /// The typed form of a record that begins and ends at these positions, for the described database and
@@ -97,12 +96,12 @@ fn names_last(head: RecordHead, kind: &RecKind<'_>) -> bool
     is_last(head.xid) || lists_last(kind)
 }
 
-/// Whether a list of ended transactions has that id.
+/// Whether a list of ended or assigned transactions has that id.
 fn lists_last(kind: &RecKind<'_>) -> bool
-    ensures { result ≡ list_any is_last (ended_in kind.now) }
+    ensures { result ≡ list_any is_last (listed_in kind.now) }
 {
     match kind {
-        RecKind::Ended { xids, .. } => has_last(xids.again()),
+        RecKind::Ended { xids, .. } | RecKind::Assignment { xids, .. } => has_last(xids.again()),
         _ => false,
     }
 }

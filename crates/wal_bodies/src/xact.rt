@@ -1,10 +1,10 @@
 ghost use Rattle.std.specs.Prelude.{◌≡◌};
 ghost use Rattle.wal_bodies.specs.Fields.{needed_number, behind, result_map};
-ghost use Rattle.wal_bodies.specs.Kinds.{time_from, xinfo_from, behind_database, count_from, counted_xids, subs_from, counted_files, files_from, parts_by, ended, xact_kind};
+ghost use Rattle.wal_bodies.specs.Kinds.{time_from, xinfo_from, behind_database, count_from, counted_xids, subs_from, counted_files, files_from, parts_by, assignment, ended, xact_kind};
 
-use crate::types::{BodyFault, RecKind, What};
-use pg_types::u32_at;
+use pg_types::{Xid, u32_at};
 use record_fields::{Locators, Xids, i64_at};
+use typed_records::{BodyFault, RecKind, What};
 
 /// The kinds of a transaction's records.
 #[tactic(auto, unfolding(crate::specs::Kinds::xact_kind))]
@@ -13,7 +13,7 @@ pub(crate) fn xact_kind<'a>(info: u8, main: &'a [u8]) -> Result<RecKind<'a>, Bod
 {
     match info & 0x70 {
         0x00 | 0x20 => ended(info, main),
-        0x50 => Err(BodyFault::Unsupported(What::NotYet)),
+        0x50 => assignment(main),
         0x10 | 0x30 | 0x40 => Err(BodyFault::Unsupported(What::Prepared)),
         _ => Ok(RecKind::Other),
     }
@@ -32,6 +32,19 @@ fn ended<'a>(info: u8, main: &'a [u8]) -> Result<RecKind<'a>, BodyFault>
         xinfo,
         xids,
         files,
+    })
+}
+
+/// Subtransactions that are assigned to a top-level transaction.
+#[tactic(auto, unfolding(crate::specs::Kinds::assignment))]
+fn assignment<'a>(main: &'a [u8]) -> Result<RecKind<'a>, BodyFault>
+    ensures { result ≡ assignment main.now }
+{
+    let (top, rest) = u32_in_front(main)?;
+    let (xids, _) = counted_xids(rest)?;
+    Ok(RecKind::Assignment {
+        top: Xid(top as u64),
+        xids,
     })
 }
 

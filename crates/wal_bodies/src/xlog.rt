@@ -1,9 +1,9 @@
 ghost use Rattle.std.specs.Prelude.{◌≡◌};
 ghost use Rattle.wal_bodies.specs.Kinds.{checkpoint, backup_end, parameters, page_writes, overwrite, xlog_kind};
 
-use crate::types::{BodyFault, RecKind, What};
 use pg_types::{Xid, u32_at, u64_at};
 use record_fields::{i32_at, i64_at, lsn_at, tli_at, xid_at};
+use typed_records::{BodyFault, RecKind, What};
 
 /// The least transaction id past the first epoch.
 const NEXT_EPOCH: u64 = 1 << 32;

@@ -16,7 +16,8 @@ use Rattle.wal_bodies.specs.Fields.{xids_at, needed_number}
 use Rattle.wal_bodies.specs.HeapKinds.{heap_kind, insert}
 use Rattle.wal_bodies.specs.Kinds.{backup_end as read_backup_end, checkpoint, behind_database, ended, files_from, kind_of, parts_by, running, standby_kind, subs_from, time_from, xact_kind, xinfo_from, xlog_kind}
 use Rattle.wal_bodies.specs.Tuples.{insert_tuples, inserted, tuples_of}
-use Rattle.wal_bodies.specs.Typed.{blocks_as, blocks_from, blocks_of, ids_of, read_as, typed}
+use Rattle.typed_records.specs.Blocks.{blocks_from, blocks_of}
+use Rattle.wal_bodies.specs.Typed.{blocks_as, ids_of, read_as, typed}
 use Rattle.worked_archive.specs.WorkedArchive.{AreTyped, IsWorkedArchive, entries, log, backup_end, commit_of_700, contents, insert_by_700, online_checkpoint, running_record, told}
 
 finds_running : step told 0x2000028 Below ≡ Ok running_record

@@ -4,8 +4,8 @@ use Rattle.std.proofs.lemmas.Bool.{eqb-true, false≢true, or_cases}
 use Rattle.std.proofs.lemmas.List.Elements.{All-cons, All-head, All-nil}
 use Rattle.pg_types.specs.Numbers.{number_at}
 use Rattle.pg_types.specs.declared.names.Locator.{Locator}
-use Rattle.wal_bodies.specs.declared.types.RecBlock.{RecBlock}
-use Rattle.wal_bodies.specs.declared.types.Rec.{Rec}
+use Rattle.typed_records.specs.declared.types.RecBlock.{RecBlock}
+use Rattle.typed_records.specs.declared.types.Rec.{Rec}
 use Rattle.heap_tuple.specs.Tuple.{is_lock_only, is_tuple, is_tuple_head, max_of}
 use Rattle.heap_page.specs.Item.{with_item}
 use Rattle.heap_page.specs.Put.{put_answer, set_head_answer}
@@ -27,7 +27,7 @@ use Rattle.transaction_model.specs.LegalTransactions.{TransactionOriginRule}
 use Rattle.std.specs.Prelude.{pos}
 use Rattle.row_model.specs.RowSteps.{view_before}
 use Rattle.heap_redo.specs.After.{applied}
-use Rattle.wal_bodies.specs.declared.types.RecKind.TheVariants.{BackupEnd, Checkpoint, Ended, Insert, Running}
+use Rattle.typed_records.specs.declared.types.RecKind.TheVariants.{BackupEnd, Checkpoint, Ended, Insert, Running}
 use Rattle.worked_archive.specs.WorkedArchive.{backup_end, commit_of_700, insert_by_700, inserted_block, known, log, online_checkpoint, rec_with, running_record}
 use Rattle.worked_logs.proofs.Legal.{keeping_is_legal_holds}
 use Rattle.row_model.specs.LegalRows.{LegalAlong, LegalTable, TableRule}

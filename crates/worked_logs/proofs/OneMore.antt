@@ -2,8 +2,8 @@
 use Rattle.std.proofs.Common.{◌≡◌, ◌≢◌, ℕ, true, false, ◌==◌, ◌||◌, List, [], ◌∷◌, is_ok, None, sym, subst, inl, inr}
 use Rattle.std.proofs.lemmas.Bool.{eqb-true, false≢true, or_cases, or_left, or_right}
 use Rattle.std.proofs.lemmas.List.Elements.{All-cons, All-nil}
-use Rattle.wal_bodies.specs.declared.types.RecBlock.{RecBlock}
-use Rattle.wal_bodies.specs.declared.types.Rec.{Rec}
+use Rattle.typed_records.specs.declared.types.RecBlock.{RecBlock}
+use Rattle.typed_records.specs.declared.types.Rec.{Rec}
 use Rattle.heap_redo.specs.After.{applied, after}
 use Rattle.transaction_model.specs.LegalTransactions.{Legal, before}
 use Rattle.xact_redo.specs.TransactionsOf.{kind_of, transactions_of}

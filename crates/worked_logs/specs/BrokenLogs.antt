@@ -4,10 +4,10 @@
 use Rattle.std.specs.Prelude.{ℕ, pos, Bool, true, false, ◌≢◌, List, [], ◌∷◌, None}
 use Rattle.record_fields.specs.declared.entries.LockEntry.{LockEntry}
 use Rattle.record_fields.specs.declared.entries.FreezePlan.{FreezePlan}
-use Rattle.wal_bodies.specs.declared.types.NewTuple.{NewTuple}
-use Rattle.wal_bodies.specs.declared.types.RecBlock.{RecBlock}
-use Rattle.wal_bodies.specs.declared.types.Rec.{Rec}
-use Rattle.wal_bodies.specs.declared.types.RecKind.TheVariants.{Delete, Ended, Freeze, Images, Insert, Lock, Locks as HeldLocks, MultiInsert, Prune, Running, Truncate}
+use Rattle.typed_records.specs.declared.types.NewTuple.{NewTuple}
+use Rattle.typed_records.specs.declared.types.RecBlock.{RecBlock}
+use Rattle.typed_records.specs.declared.types.Rec.{Rec}
+use Rattle.typed_records.specs.declared.types.RecKind.TheVariants.{Delete, Ended, Freeze, Images, Insert, Lock, Locks as HeldLocks, MultiInsert, Prune, Running, Truncate}
 use Rattle.row_model.specs.WorkedRows.{checkpoint_at, first_tuple, running_none, worked_block, worked_log, worked_origin, worked_record, worked_table}
 use Rattle.worked_logs.specs.Clauses.{Clause, Births, Deleters, Removals, Cut, Blocks, Locks, CheckpointLocks, Multixacts, Renews, Apart, Shutdowns, Transactions, Redone, Keeps}
 

@@ -2,7 +2,7 @@
 -- Source: the rules of row_model and transaction_model.
 use Rattle.std.specs.Prelude.{◌≡◌, ℕ, true, List, [], ◌∷◌, All, Ok}
 use Rattle.pg_types.specs.declared.names.Locator.{Locator}
-use Rattle.wal_bodies.specs.declared.types.Rec.{Rec}
+use Rattle.typed_records.specs.declared.types.Rec.{Rec}
 use Rattle.page_store.specs.Seen.{View}
 use Rattle.transaction_model.specs.LegalTransactions.{Legal}
 use Rattle.xact_redo.specs.TransactionsOf.{kind_of, transactions_of}

@@ -5,10 +5,10 @@
 -- (lazy_truncate_heap), storage.c (RelationTruncate).
 use Rattle.std.specs.Prelude.{◌≡◌, pos, Bool, true, false, List, [], ◌∷◌, None}
 use Rattle.record_fields.specs.declared.entries.LockEntry.{LockEntry}
-use Rattle.wal_bodies.specs.declared.types.NewTuple.{NewTuple}
-use Rattle.wal_bodies.specs.declared.types.RecBlock.{RecBlock}
-use Rattle.wal_bodies.specs.declared.types.Rec.{Rec}
-use Rattle.wal_bodies.specs.declared.types.RecKind.TheVariants.{Ended, Freeze, Insert, Locks, Prune, Truncate, Vacuum}
+use Rattle.typed_records.specs.declared.types.NewTuple.{NewTuple}
+use Rattle.typed_records.specs.declared.types.RecBlock.{RecBlock}
+use Rattle.typed_records.specs.declared.types.Rec.{Rec}
+use Rattle.typed_records.specs.declared.types.RecKind.TheVariants.{Ended, Freeze, Insert, Locks, Prune, Truncate, Vacuum}
 use Rattle.row_model.specs.Versions.{Version}
 use Rattle.row_model.specs.Origins.{committed_in}
 use Rattle.row_model.specs.Multixacts.{multixacts}

@@ -13,12 +13,13 @@ use Rattle.heap_redo.specs.TupleHeads.{head_bytes}
 use Rattle.known_assigned.specs.Known.{after_end, after_observe, after_running, made_anew, past_oldest, unobserved}
 use Rattle.standby_snapshot.specs.Snapshot.{in_progress, take_of}
 use Rattle.tuple_visibility.specs.Visible.{deleter_of, inserter_counts, visible_of}
-use Rattle.xact_redo.specs.State.{before_records, state_after}
+use Rattle.xact_redo.specs.State.{before_records, forgetting, state_after}
 use Rattle.seq_scan.specs.BlockRows.{block_rows, rows_from}
 use Rattle.pg_types.specs.declared.names.Lsn.{Lsn}
 use Rattle.recovery_conflict.specs.Held.{locks_after}
 use Rattle.recovery_conflict.specs.declared.locks.HeldLock.{HeldLock}
 use Rattle.standby_core.specs.Conflicts.{gone_after}
+use Rattle.standby_core.specs.Horizon.{parents_kept}
 use Rattle.standby_core.specs.Standby.{Standby, at_origin}
 use Rattle.standby_core.specs.Scans.{HasBlocks, OpensAdmitted, OpensTable, OpensUnlessCrowded, OpensUnlessGone, OpensUnlessLocked, gone_since, is_admitted, is_crowded, is_there, lock_of, with_new_scan}
 use Rattle.standby_core.specs.declared.scans.Opened.{Opened as OpenedBy}
@@ -39,7 +40,7 @@ unfolding redone_record redone redone_at redone_block after after_change changed
 are_redone = (refl, (refl, (refl, (refl, (refl, tt)))))
 
 admitted : is_admitted node ≡ true
-unfolding at_origin state_after before_records after_observe after_running past_oldest made_anew after_end
+unfolding at_origin parents_kept forgetting state_after before_records after_observe after_running past_oldest made_anew after_end
 admitted = refl
 
 not_crowded : is_crowded node ≡ false
@@ -109,5 +110,5 @@ abbrev pub read : Standby
 read = record node { scans = []; next_id = 2 }
 
 pub reads : node_step (Next 1) scanning page_reply read
-unfolding redone_record redone redone_at redone_block after after_change changed_page changed put_listed put tuple_of head_bytes put_answer is_tuple is_tuple_head with_item number_at at_origin view_with with_seen grown state_after before_records after_observe after_running past_oldest made_anew after_end unobserved block_rows rows_from visible_of inserter_counts deleter_of in_progress take_of row_of cells_from column_value has_value span_of varlena_at cell_of max_of is_lock_only
+unfolding redone_record redone redone_at redone_block after after_change changed_page changed put_listed put tuple_of head_bytes put_answer is_tuple is_tuple_head with_item number_at at_origin view_with with_seen grown parents_kept forgetting state_after before_records after_observe after_running past_oldest made_anew after_end unobserved block_rows rows_from visible_of inserter_counts deleter_of in_progress take_of row_of cells_from column_value has_value span_of varlena_at cell_of max_of is_lock_only
 reads = (refl, refl)

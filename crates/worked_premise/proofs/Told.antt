@@ -9,7 +9,7 @@ use Rattle.wal_reader.specs.Log as reader
 use Rattle.wal_reader.specs.Step.{Entry, step}
 use Rattle.wal_reader.specs.Told.{Told}
 use Rattle.pg_types.specs.declared.names.Lsn.{Lsn}
-use Rattle.wal_bodies.specs.declared.types.Rec.{Rec}
+use Rattle.typed_records.specs.declared.types.Rec.{Rec}
 use Rattle.standby_core.specs.Standby.{described_in}
 use Rattle.standby_model.specs.Archived.{told_by}
 use Rattle.wal_bodies.specs.Ends.{end_of}

@@ -1,1 +1,2 @@
+mod Assigned
 pub mod Ids

@@ -3,7 +3,8 @@
 use Rattle.std.specs.Prelude.{ℕ, Bool, List, Option, None, Result}
 use Rattle.pg_types.specs.declared.names.Xid.{Xid}
 use Rattle.pg_types.specs.declared.status.Unknown.{Unknown}
-use Rattle.standby_snapshot.specs.Snapshot.{SnapshotData, no_parents, take_of}
+use Rattle.standby_snapshot.specs.Snapshot.{SnapshotData, take_of}
+use Rattle.subtrans.specs.Parents.{topmost_of}
 use Rattle.tuple_visibility.specs.Visible.{visible_of}
 use Rattle.xact_redo.specs.State.{TransactionState}
 
@@ -11,9 +12,9 @@ use Rattle.xact_redo.specs.State.{TransactionState}
 abbrev pub no_multixacts : ℕ → Option (Option Xid)
 no_multixacts id = None
 
--- whether a snapshot sees a tuple, by the statuses of this state
+-- whether a snapshot sees a tuple, by the statuses and the parents of this state
 abbrev pub sees_by : SnapshotData → TransactionState → List ℕ → Result Bool Unknown
-sees_by snapshot state tuple = visible_of tuple snapshot no_parents state.statuses no_multixacts
+sees_by snapshot state tuple = visible_of tuple snapshot (topmost_of state.parents) state.statuses no_multixacts
 
 -- whether a snapshot of this state sees a tuple
 abbrev pub sees : TransactionState → List ℕ → Result Bool Unknown

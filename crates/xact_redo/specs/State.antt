@@ -6,18 +6,19 @@ use Rattle.pg_types.specs.declared.names.Xid.{Xid}
 use Rattle.pg_types.specs.declared.status.Status.{Status}
 use Rattle.pg_types.specs.declared.status.Status.TheVariants.{None as Unset, Committed, Aborted, Sub}
 use Rattle.wal_record.specs.declared.types.RecordHead.{RecordHead}
-use Rattle.wal_bodies.specs.declared.types.Rec.{Rec}
-use Rattle.wal_bodies.specs.declared.types.RecKind.{RecKind}
-use Rattle.wal_bodies.specs.declared.types.RecKind.TheVariants.{Ended, Running}
-use Rattle.wal_bodies.specs.Typed.{ended_in}
+use Rattle.typed_records.specs.declared.types.Rec.{Rec}
+use Rattle.typed_records.specs.declared.types.RecKind.{RecKind}
+use Rattle.typed_records.specs.declared.types.RecKind.TheVariants.{Assignment, Checkpoint, Ended, Running}
+use Rattle.wal_bodies.specs.Typed.{listed_in}
 use Rattle.wal_bodies.specs.Xids.{record_xids}
 use Rattle.commit_log.specs.Log.{changed_after, changed_at, initial_status, reserved_end, status_after, status_of}
 use Rattle.subtrans.specs.declared.Pair.{Pair}
+use Rattle.subtrans.specs.Parents.{from_sub}
 use Rattle.known_assigned.specs.Ids.{greatest, numbers}
 use Rattle.known_assigned.specs.Known.{Known, count_added, nothing_known}
 use Rattle.transaction_model.specs.StandbyStates.{StandbyState, last_named, replay}
 use Rattle.xact_redo.specs.declared.state.XactState.{XactState}
-use Rattle.xact_redo.specs.TransactionsOf.{is_commit, kind_of}
+use Rattle.xact_redo.specs.TransactionsOf.{at_shutdown, is_commit, kind_of}
 
 -- what contracts see of the state: the status of each transaction, the position at which a status on each page
 -- of the commit log was set last, the parents of subtransactions, and what is known of running transactions
@@ -79,6 +80,18 @@ state_after rec s =
       known = standby.known;
     }
 
+-- a record ends ids: a commit or an abort those that it names, a running record those below its oldest one, and a
+-- shutdown checkpoint all of them
+abbrev pub ends_ids : RecordHead → RecKind → Bool
+ends_ids head (Ended time xinfo xids files) = true
+ends_ids head (Running tops subs overflow next oldest latest xids) = true
+ends_ids head (Checkpoint redo timeline previous writes next multi member oldest active) = at_shutdown head
+ends_ids head _ = false
+
+-- the parents of the subtransactions below a bound are forgotten (TruncateSUBTRANS, subtrans.c)
+unfoldable pub forgetting : ℕ → TransactionState → TransactionState
+forgetting bound s = record s { parents = from_sub s.parents bound }
+
 -- the greatest id that a record names
 abbrev pub last_named_in : RecordHead → RecKind → ℕ
 last_named_in head kind = last_named head.xid.0 (kind_of head kind)
@@ -101,14 +114,20 @@ abbrev pub listed_running : RecKind → List Xid
 listed_running (Running tops subs overflow next oldest latest xids) = xids
 listed_running _ = []
 
--- the room that a record needs: for the statuses that it sets, for the ids that it shows to run, and for those of
--- a running record that have not ended, which are chosen beforehand, with the greatest one that has; the
--- subtransactions that it ends are kept
+-- the ids whose parent a record may tell
+abbrev pub listed_assigned : RecKind → List Xid
+listed_assigned (Assignment top xids) = xids
+listed_assigned _ = []
+
+-- the room that a record needs: for the statuses that it sets, for the parents that it tells, for the ids that it shows
+-- to run, and for those of a running record that have not ended, which are chosen beforehand, with the greatest one that
+-- has; the subtransactions that it ends or assigns are kept
 pub record HasRoom (rec : Rec) (state : XactState) : Type 0 where
   pub statuses : All (λ (x : Xid). x.0 < reserved_end state.log) (ended_ids rec.head rec.kind)
   pub live : numbers state.scratch ≡ still_live (status_of state.log) (numbers (listed_running rec.kind))
   pub ended : state.ended.0 ≡ greatest_ended (status_of state.log) (numbers (listed_running rec.kind))
-  pub tree : state.tree ≡ ended_in rec.kind
+  pub tree : state.tree ≡ listed_in rec.kind
+  pub parents : length (listed_assigned rec.kind) ≤ state.subs.spare
   pub places :
       count_added state.known.known (last_named_in rec.head rec.kind) + length state.scratch ≤ state.known.spare
 

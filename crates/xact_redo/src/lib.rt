@@ -6,6 +6,6 @@ mod records;
 mod room;
 pub mod state;
 
-pub use records::redo;
+pub use records::{ends_ids, redo};
 pub use room::reserve;
 pub use state::XactState;

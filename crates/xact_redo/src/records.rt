@@ -1,24 +1,27 @@
-ghost use Rattle.std.specs.Prelude.{◌≡◌, ℕ, ◌+◌, ◌^◌, ◌≤◌, ◌<◌, ◌∷◌, All, filter, length, if◌then◌else◌};
+ghost use Rattle.std.specs.Prelude.{◌≡◌, ℕ, ◌+◌, ◌^◌, ◌≤◌, ◌<◌, [], ◌∷◌, All, filter, length, if◌then◌else◌};
 ghost use Rattle.pg_types.specs.declared.names.Xid.{Xid};
 ghost use Rattle.commit_log.specs.Log.{changed_after, reserved_end, status_after, status_of};
 ghost use Rattle.known_assigned.specs.Ids.{greatest, numbers};
-ghost use Rattle.known_assigned.specs.Known.{after_end, after_running, after_shutdown};
-ghost use Rattle.xact_redo.specs.State.{AreIdsInRange, HasRoom, has_ended, last_named_in, outcome_of, shows_ended, state_after, still_live, transactions};
+ghost use Rattle.known_assigned.specs.Known.{after_assign, after_end, after_running, after_shutdown};
+ghost use Rattle.transaction_model.specs.StandbyStates.{set_parents};
+ghost use Rattle.xact_redo.specs.State.{AreIdsInRange, HasRoom, ends_ids, has_ended, last_named_in, outcome_of, shows_ended, state_after, still_live, transactions};
 ghost use Rattle.xact_redo.specs.TransactionsOf.{at_shutdown};
 
 use crate::state::XactState;
 use known_assigned::RunningHead;
 use pg_types::{Lsn, Status, Xid};
+use subtrans::Subtrans;
 use wal_bodies::{Rec, RecKind, Xids};
 use wal_record::RecordHead;
 
 /// Applies a record to the state. The ids that it names are observed first, whatever its kind
 /// (`ApplyWalRecord`, xlogrecovery.c); then a commit or an abort ends its transaction
-/// (`xact_redo_commit`, `xact_redo_abort`), a running record tells which run
+/// (`xact_redo_commit`, `xact_redo_abort`), an assignment tells the parents of subtransactions
+/// (`ProcArrayApplyXidAssignment`), a running record tells which run
 /// (`ProcArrayApplyRecoveryInfo`), and at a shutdown checkpoint none does.
 ///
 /// It takes no memory. It costs a constant time for each id that is new, a search by halving and a
-/// write for each id that ends, and of a running record what `KnownAssigned::running` costs.
+/// write for each id that ends or is assigned, and of a running record what `KnownAssigned::running` costs.
 #[tactic(auto, unfolding(crate::specs::State::state_after, crate::specs::State::transactions))]
 pub fn redo(rec: &Rec<'_>, state: &mut XactState)
     requires ids { AreIdsInRange rec.now }
@@ -30,6 +33,7 @@ pub fn redo(rec: &Rec<'_>, state: &mut XactState)
         RecKind::Ended { .. } => {
             end_tree(rec.head.xid, outcome_of(rec.head), rec.end, state);
         }
+        RecKind::Assignment { top, .. } => assign(*top, state),
         RecKind::Running {
             tops,
             overflow,
@@ -52,12 +56,27 @@ pub fn redo(rec: &Rec<'_>, state: &mut XactState)
     }
 }
 
-/// The greatest id that the record names, in its header or as ended.
+/// Whether the record ends ids: a commit or an abort those that it names, a running record those below its oldest one,
+/// and a shutdown checkpoint all of them.
+pub fn ends_ids(rec: &Rec<'_>) -> bool
+    ensures { result ≡ ends_ids rec.now.head rec.now.kind }
+{
+    match &rec.kind {
+        RecKind::Ended { .. } | RecKind::Running { .. } => true,
+        RecKind::Checkpoint { .. } => rec.head.info & 0xF0 == 0x00,
+        _ => false,
+    }
+}
+
+/// The greatest id that the record names, in its header, as ended or as assigned.
 pub(crate) fn last_named(rec: &Rec<'_>) -> Xid
     ensures { result.0 ≡ last_named_in rec.now.head rec.now.kind }
 {
     match &rec.kind {
         RecKind::Ended { xids, .. } => greatest_of(rec.head.xid, xids.again()),
+        RecKind::Assignment { top, xids } => {
+            greatest_of(Xid(rec.head.xid.0.max(top.0)), xids.again())
+        }
         _ => rec.head.xid,
     }
 }
@@ -94,6 +113,38 @@ fn end_tree(xid: Xid, status: Status, at: Lsn, state: &mut XactState)
 {
     state.log.set_tree(xid, state.tree.as_slice(), status, at);
     state.known.end_tree(xid, state.tree.as_slice());
+}
+
+/// The subtransactions that `reserve` kept are known by their parent from now on.
+#[tactic(auto, unfolding(crate::specs::State::transactions))]
+fn assign(top: Xid, state: &mut XactState)
+    requires { length state.old.tree ≤ state.old.subs.spare }
+    ensures { transactions state.new ≡ record (transactions state.old) { known = after_assign (transactions state.old).known top.0 (numbers state.old.tree); parents = set_parents top.0 (numbers state.old.tree) (transactions state.old).parents } }
+{
+    state.known.assign(top, state.tree.as_slice());
+    set_parents(top, state.tree.as_slice(), &mut state.subs);
+}
+
+/// Each of these that is above the top transaction has it as its parent.
+fn set_parents(top: Xid, xids: &[Xid], subs: &mut Subtrans)
+    requires { length xids.now ≤ subs.old.spare }
+    ensures { subs.new.pairs ≡ set_parents top.0 (numbers xids.now) subs.old.pairs }
+{
+    for xid in xids {
+        set_parent(top, *xid, subs);
+    }
+}
+
+/// An id that is above the top transaction has it as its parent.
+#[tactic(auto, unfolding(transaction_model::specs::StandbyStates::set_parents))]
+fn set_parent(top: Xid, xid: Xid, subs: &mut Subtrans)
+    requires { 0 < subs.old.spare }
+    ensures pairs { subs.new.pairs ≡ set_parents top.0 (xid.0 ∷ []) subs.old.pairs }
+    ensures spare { subs.old.spare ≤ subs.new.spare + 1 }
+{
+    if top.0 < xid.0 {
+        subs.set_parent(xid, top);
+    }
 }
 
 /// The listed transactions run, but those that have ended, as `reserve` found them.

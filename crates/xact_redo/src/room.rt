@@ -1,20 +1,21 @@
-ghost use Rattle.std.specs.Prelude.{◌≡◌, ℕ, ◌<◌, [], All, IfOk, OnOk};
+ghost use Rattle.std.specs.Prelude.{◌≡◌, ℕ, ◌<◌, ◌≤◌, [], All, IfOk, OnOk, length};
 ghost use Rattle.pg_types.specs.declared.names.Xid.{Xid};
 ghost use Rattle.commit_log.specs.Log.{changed_at, reserved_end, status_of};
-ghost use Rattle.wal_bodies.specs.Typed.{ended_in};
+ghost use Rattle.wal_bodies.specs.Typed.{listed_in};
 ghost use Rattle.known_assigned.specs.Ids.{numbers};
-ghost use Rattle.xact_redo.specs.State.{HasRoom, ended_ids, greatest_ended, listed_running, still_live, transactions};
+ghost use Rattle.xact_redo.specs.State.{HasRoom, ended_ids, greatest_ended, listed_assigned, listed_running, still_live, transactions};
 
 use crate::records::{has_ended, last_named};
 use crate::state::XactState;
 use commit_log::CommitLog;
 use pg_types::{NoMemory, Xid, XidList};
+use subtrans::Subtrans;
 use wal_bodies::{Rec, RecKind, Xids};
 
 /// Makes all the room that the record needs, so that its `redo` takes no memory, and changes nothing else
 /// that contracts see; also where memory is wanting. The room lasts until the state changes.
 ///
-/// It costs a copy of each id that the record ends, a look-up in the commit log for each id that a running
+/// It costs a copy of each id that the record ends or assigns, a look-up in the commit log for each id that a running
 /// record lists, and the memory that is taken anew.
 #[tactic(auto, unfolding(crate::specs::State::transactions))]
 pub fn reserve(rec: &Rec<'_>, state: &mut XactState) -> Result<(), NoMemory>
@@ -23,6 +24,7 @@ pub fn reserve(rec: &Rec<'_>, state: &mut XactState) -> Result<(), NoMemory>
 {
     reserve_statuses(rec, &mut state.log)?;
     keep_tree(rec, &mut state.tree)?;
+    reserve_parents(rec, state.tree.len(), &mut state.subs)?;
     state.ended = keep_live(rec, &state.log, &mut state.scratch)?;
     let added = state.known.would_add(last_named(rec));
     match added.checked_add(state.scratch.len() as u64) {
@@ -43,13 +45,27 @@ fn reserve_statuses(rec: &Rec<'_>, log: &mut CommitLog) -> Result<(), NoMemory>
     }
 }
 
-/// Keeps the subtransactions that the record ends.
+/// Makes room for the parents of the subtransactions that the record assigns, of which there are so many.
+fn reserve_parents(rec: &Rec<'_>, count: usize, subs: &mut Subtrans) -> Result<(), NoMemory>
+    requires { count ≡ length (listed_in rec.now.kind) }
+    ensures pairs { subs.new.pairs ≡ subs.old.pairs }
+    ensures room { OnOk result (length (listed_assigned rec.now.kind) ≤ subs.new.spare) }
+{
+    match &rec.kind {
+        RecKind::Assignment { .. } => subs.reserve(count),
+        _ => Ok(()),
+    }
+}
+
+/// Keeps the subtransactions that the record ends or assigns.
 fn keep_tree(rec: &Rec<'_>, tree: &mut XidList) -> Result<(), NoMemory>
-    ensures { OnOk result (tree.new ≡ ended_in rec.now.kind) }
+    ensures { OnOk result (tree.new ≡ listed_in rec.now.kind) }
 {
     tree.clear();
     match &rec.kind {
-        RecKind::Ended { xids, .. } => push_all(xids.again(), tree),
+        RecKind::Ended { xids, .. } | RecKind::Assignment { xids, .. } => {
+            push_all(xids.again(), tree)
+        }
         _ => Ok(()),
     }
 }

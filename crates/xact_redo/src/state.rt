@@ -18,14 +18,14 @@ pub struct XactState {
     pub known: KnownAssigned,
     /// The ids of a running record that have not ended, from its `reserve` to its `redo`.
     pub scratch: XidList,
-    /// The subtransactions that a record ends, from its `reserve` to its `redo`.
+    /// The subtransactions that a record ends or assigns, from its `reserve` to its `redo`.
     pub tree: XidList,
     /// The greatest id of a running record that has ended, or 0, from its `reserve` to its `redo`.
     pub ended: Xid,
 }
 
 impl XactState {
-    ghost use Rattle.xact_redo.specs.State.{before_records, transactions};
+    ghost use Rattle.xact_redo.specs.State.{before_records, forgetting, transactions};
 
     /// The state before the first record. It takes no memory.
     #[tactic(auto, unfolding(crate::specs::State::transactions, crate::specs::State::before_records))]
@@ -41,16 +41,32 @@ impl XactState {
             ended: Xid(0),
         }
     }
+
+    /// Forgets the parents of all subtransactions below `xid` (`TruncateSUBTRANS`, subtrans.c). It takes no memory:
+    /// one step for each parent that goes, and one search by halving.
+    #[tactic(auto, unfolding(crate::specs::State::transactions, crate::specs::State::forgetting))]
+    pub fn forget_below(&mut self, xid: Xid)
+        ensures { transactions self.new ≡ forgetting xid.0 (transactions self.old) }
+    {
+        self.subs.forget_below(xid);
+    }
 }
 
 impl Statuses for XactState {
     ghost use Rattle.std.specs.Prelude.{None};
     ghost use Rattle.commit_log.specs.Log.{status_of};
 
+    ghost parents_of = { λ state. state.subs.pairs };
+
     ghost status_of = { λ state. status_of state.log };
 
     // No record that makes a multixact is read yet.
     ghost updater_of = { λ _ _. None };
+
+    /// At once.
+    fn parents(&self) -> &Subtrans {
+        &self.subs
+    }
 
     /// One look-up in the commit log.
     fn status(&self, xid: Xid) -> Status {

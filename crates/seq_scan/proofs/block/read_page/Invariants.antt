@@ -8,5 +8,5 @@ use Rattle.seq_scan.proofs.block.read_page.Given as goal
 
 abbrev pub invariant-loop-k : goal.invariant-loop-k
 invariant-loop-k g l =
-    let sees = seen_by (in_numbers l.snapshot) (g.S.Statuses.status_of l.statuses) (g.S.Statuses.updater_of l.statuses) in
+    let sees = seen_by (in_numbers l.snapshot) (g.S.Statuses.parents_of l.statuses) (g.S.Statuses.status_of l.statuses) (g.S.Statuses.updater_of l.statuses) in
     behind l.rows (lines_behind l.columns sees (items_of l.page) l.k) ≡ rows_from l.columns sees 1 (items_of l.page)

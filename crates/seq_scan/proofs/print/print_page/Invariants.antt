@@ -9,6 +9,6 @@ use Rattle.seq_scan.proofs.print.print_page.Given as goal
 
 abbrev pub invariant-loop-k : goal.invariant-loop-k
 invariant-loop-k g l =
-    let sees = seen_by (in_numbers l.snapshot) (g.S.Statuses.status_of l.statuses) (g.S.Statuses.updater_of l.statuses) in
+    let sees = seen_by (in_numbers l.snapshot) (g.S.Statuses.parents_of l.statuses) (g.S.Statuses.status_of l.statuses) (g.S.Statuses.updater_of l.statuses) in
     printed_rows l.head l.columns l.out.items (lines_behind l.columns sees (items_of l.page) l.k)
     ≡ printed_rows l.head l.columns l.initial.out.items (rows_from l.columns sees 1 (items_of l.page))
