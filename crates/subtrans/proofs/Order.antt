@@ -1,6 +1,6 @@
 -- Pairs in rising order of the subtransaction: cut at a subtransaction, and the topmost parents they tell.
 use Rattle.std.proofs.Common.{◌≡◌, ◌≢◌, ℕ, ◌<◌, ◌≤◌, Bool, true, false, eqb, leb, ltb, List, [], ◌∷◌, ◌++◌, length, get_or, take, drop, zero, suc, filter, set, refl, sym, ap, subst, ◌∙◌, ⊎_elim, arith, drop-cons, take-append-drop, length-drop, add-zero}
-use Rattle.std.proofs.lemmas.List.{get_or-drop, set_split}
+use Rattle.std.proofs.lemmas.List.{get_or-drop, get_or_read, set_split}
 use Rattle.std.specs.List.{insert}
 use Rattle.std.specs.List.{AllWithin}
 use Rattle.std.proofs.lemmas.Bool.{cases_lt, cond-true, cond-false, cond_both, lt-ltb, le-ltb, le-leb, lt-leb, ltb-true, ltb-false, leb-true, eq-eqb, eqb-false, ne_eqb}
@@ -70,6 +70,22 @@ rises (q ∷ qs) h (suc i) (suc j) d le within = rises qs h.2 i j d (omega arith
 pub cut : (qs : List Pair) (x k : ℕ) → AllWithin (λ (q : Pair). ltb q.sub x ≡ true) qs 0 k → AllWithin (λ (q : Pair). ltb q.sub x ≡ false) qs k (length qs) → (take k qs ≡ before_sub qs x) × (drop k qs ≡ from_sub qs x)
 cut qs x k front back =
     filter_cut (λ (q : Pair). ltb q.sub x) (λ (q : Pair). leb x q.sub) (λ q h. lt-leb x q.sub (ltb-true q.sub x h)) (λ q h. le-leb x q.sub (ltb-false q.sub x h)) qs k front back
+
+-- where the last pair is below x, all are, and where the first is from x on, none is below
+pub all_below : (qs : List Pair) (x n : ℕ) (q : Pair) → InOrder qs → q ≡ get_or qs n q → suc n ≡ length qs → q.sub < x → AllWithin (λ (p : Pair). ltb p.sub x ≡ true) qs 0 (length qs)
+all_below qs x n q order read long low =
+    λ i d from within. lt-ltb (get_or qs i d).sub x (omega (arith, rises qs order i n d (omega arith) (omega arith), ap (λ (p : Pair). p.sub) (get_or_read qs n q (omega arith) read d)))
+
+pub none_below : (qs : List Pair) (x : ℕ) (q : Pair) → InOrder qs → q ≡ get_or qs 0 q → x ≤ q.sub → AllWithin (λ (p : Pair). ltb p.sub x ≡ false) qs 0 (length qs)
+none_below qs x q order read low =
+    λ i d from within. le-ltb (get_or qs i d).sub x (omega (arith, rises qs order 0 i d (omega arith) within, ap (λ (p : Pair). p.sub) (get_or_read qs 0 q (omega arith) read d)))
+
+-- so the cut is at the end, or at the start
+pub behind : (qs : List Pair) (x : ℕ) → AllWithin (λ (q : Pair). ltb q.sub x ≡ true) qs 0 (length qs) → (take (length qs) qs ≡ before_sub qs x) × (drop (length qs) qs ≡ from_sub qs x)
+behind qs x all = cut qs x (length qs) all (λ i d low high. absurd (omega arith))
+
+pub before : (qs : List Pair) (x : ℕ) → AllWithin (λ (q : Pair). ltb q.sub x ≡ false) qs 0 (length qs) → (take 0 qs ≡ before_sub qs x) × (drop 0 qs ≡ from_sub qs x)
+before qs x none = cut qs x 0 (λ i d low high. absurd (omega arith)) none
 
 pub InOrder-drop : (k : ℕ) (qs : List Pair) → InOrder qs → InOrder (drop k qs)
 InOrder-drop zero qs h = h

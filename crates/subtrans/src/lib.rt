@@ -1,7 +1,9 @@
 //! The parents of subtransactions, as assignment records tell them (subtrans.c).
 #![tactic(auto)]
 
-ghost use Rattle.std.specs.Prelude.{◌≡◌, ℕ, ◌+◌, ◌<◌, ◌≤◌, [], ◌++◌, filter, length, take, drop, nat_lt, MatchOption, MatchResult, OnOk};
+ghost use Rattle.std.specs.Bool.{OnTrue};
+ghost use Rattle.std.specs.List.{AllWithin};
+ghost use Rattle.std.specs.Prelude.{◌≡◌, ℕ, ◌+◌, ◌<◌, ◌≤◌, true, false, [], ◌++◌, filter, length, take, drop, nat_lt, MatchOption, MatchResult, OnOk};
 ghost use Rattle.std.specs.VecDeque.{deque_len, deque_capacity};
 ghost use Rattle.subtrans.specs.declared.Pair.{Pair};
 ghost use Rattle.subtrans.specs.Parents.{topmost_of, with_parent, from_sub, InOrder, IsFound, IsAbsent, AlwaysFollowsParents};
@@ -59,7 +61,7 @@ impl Subtrans {
     }
 
     /// The parent of `sub` is `parent` from now on, in place of what was known of it (`SubTransSetParent`).
-    /// It takes no memory. The place is found by halving; pairs of greater subtransactions, of which
+    /// It takes no memory. The place of one above all is the end, any other is found by halving; pairs of greater subtransactions, of which
     /// there are mostly none, or those of lesser ones, if these are fewer, are moved.
     pub fn set_parent(&mut self, sub: Xid, parent: Xid)
         requires below { parent.0 < sub.0 }
@@ -104,13 +106,35 @@ impl Subtrans {
         }
     }
 
-    /// How many pairs have a subtransaction below `x`.
+    /// How many pairs have a subtransaction below `x`. One that begins is above all that are known, and mostly
+    /// nothing is to be forgotten: both are answered by one look, any other place is found by halving.
     fn place(&self, x: u64) -> usize
         ensures bound { result ≤ length self.now.pairs }
         ensures below { take result self.now.pairs ≡ filter (λ (q : Pair). nat_lt q.sub x) self.now.pairs }
         ensures rest { drop result self.now.pairs ≡ from_sub self.now.pairs x }
     {
+        if self.are_below(x) {
+            return self.pairs.len();
+        }
+        if self.are_from(x) {
+            return 0;
+        }
         self.pairs.partition_point(|pair| pair.sub < x)
+    }
+
+    /// Whether the last pair, and so each, has a subtransaction below `x`.
+    fn are_below(&self, x: u64) -> bool
+        ensures { OnTrue result (AllWithin (λ (q : Pair). nat_lt q.sub x ≡ true) self.now.pairs 0 (length self.now.pairs)) }
+    {
+        let len = self.pairs.len();
+        len == 0 || self.pairs[len - 1].sub < x
+    }
+
+    /// Whether the first pair, and so each, has a subtransaction from `x` on.
+    fn are_from(&self, x: u64) -> bool
+        ensures { OnTrue result (AllWithin (λ (q : Pair). nat_lt q.sub x ≡ false) self.now.pairs 0 (length self.now.pairs)) }
+    {
+        self.pairs.len() == 0 || self.pairs[0].sub >= x
     }
 
     /// The parent of `x`, if one is known.
