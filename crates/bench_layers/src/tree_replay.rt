@@ -63,22 +63,40 @@ fn step(number: u32, state: &mut XactState) -> Result<(), NoMemory> {
 }
 
 /// Replays so many transactions, of which the first runs on, and forgets after each the parents that neither the snapshot
-/// of the second's end nor a later one asks for. Answers how often a subtransaction of the first one was in progress by
-/// that snapshot, which was asked of one of them after each transaction.
-pub fn replay(alloc: Global, count: u32, state: &mut XactState) -> Result<u64, NoMemory> {
+/// of the second's end nor a later one asks for. Answers that snapshot, where it could be taken.
+pub fn replay(
+    alloc: Global,
+    count: u32,
+    state: &mut XactState,
+) -> Result<Option<Snapshot>, NoMemory> {
     apply(&running(), state)?;
     step(0, state)?;
     step(1, state)?;
     let snapshot = taken(alloc, state)?;
-    let mut seen = 0_u64;
     for number in 2..count {
         step(number, state)?;
         if let Some(snapshot) = &snapshot {
             let oldest = xmin(&state.known).0.min(snapshot.xmin.0);
             state.forget_below(Xid(oldest));
-            let asked = Xid(u64::from(FIRST + 1 + number % SUBTRANSACTIONS));
-            seen = seen.wrapping_add(u64::from(snapshot.in_progress(asked, &state.subs)));
         }
     }
-    Ok(seen)
+    Ok(snapshot)
+}
+
+/// The subtransaction that a question of this number is about: in turn one of the first transaction, which runs, and one
+/// of the second, which ended before the snapshot was taken.
+fn asked_of(number: u32) -> Xid {
+    let top = top_of(number % 2);
+    let id = top.wrapping_add(1).wrapping_add(number % SUBTRANSACTIONS);
+    Xid(u64::from(id))
+}
+
+/// Asks the snapshot so many questions. Answers how many of them were about a subtransaction in progress.
+pub fn ask(snapshot: &Snapshot, questions: u32, state: &XactState) -> u64 {
+    let mut seen = 0_u64;
+    for number in 0..questions {
+        let is_seen = snapshot.in_progress(asked_of(number), &state.subs);
+        seen = seen.wrapping_add(u64::from(is_seen));
+    }
+    seen
 }
