@@ -12,6 +12,8 @@ from server import Server, give
 
 # PostgreSQL's best settings: the log in pg_wal, no fsync, buffers for all blocks, nothing written meanwhile.
 BEST = {"fsync": "off", "shared_buffers": "1GB", "max_wal_size": "100GB", "checkpoint_timeout": "1d", "wal_recycle": "off"}
+# Ours: the C library asks the system for memory in pages of 2 MiB.
+LARGE_PAGES = {"GLIBC_TUNABLES": "glibc.malloc.hugetlb=1"}
 
 
 class Times:
@@ -33,7 +35,7 @@ class Times:
         return text + (", peak memory %d MiB" % (self.peak >> 10) if self.peak else "")
 
 
-def run(words, folder, out=None):
+def run(words, folder, out=None, settings=None):
     """Processor time, time passed and peak memory in KiB of one run, whose output goes through a pipe to a program that
     throws it away, or into a file."""
     sink = None if out else subprocess.Popen(["cat"], stdin=subprocess.PIPE, stdout=subprocess.DEVNULL)
@@ -41,7 +43,7 @@ def run(words, folder, out=None):
         begun = time.monotonic()
         # Between Python and the program stands a small one, since a process's peak memory counts that of its parent.
         words = ["/usr/bin/time", "-f", "%M", "-o", memory.name, *words]
-        child = subprocess.Popen(words, cwd=folder, stdout=out or sink.stdin)
+        child = subprocess.Popen(words, cwd=folder, stdout=out or sink.stdin, env=dict(os.environ, **(settings or {})))
         _, status, used = os.wait4(child.pid, 0)
         passed = time.monotonic() - begun
         child.returncode = os.waitstatus_to_exitcode(status)
@@ -101,7 +103,7 @@ class Beside:
         self.about = about(log)
         self.wal = os.path.join(work, "wal")
         for_server(log, self.wal, self.about["release"], self.about["system"])
-        self.replay, self.scan, self.best, self.default, self.copy = (Times() for _ in range(5))
+        self.replay, self.large, self.scan, self.best, self.default, self.copy = (Times() for _ in range(6))
         self.rows = self.blocks = None
 
     def cluster(self, data):
@@ -145,8 +147,10 @@ class Beside:
             self.default.add(*server.redo_time())
 
     def ours(self):
-        """Our replay, which is a scan of a table without rows; and scans of all rows in a session that has replayed."""
+        """Our replay, which is a scan of a table without rows, also with large pages of memory; and scans of all rows in a
+        session that has replayed."""
         self.replay.add(*run([self.standby, "scan", "u"], self.log))
+        self.large.add(*run([self.standby, "scan", "u"], self.log, settings=LARGE_PAGES))
         self.scans(3)
 
     def scans(self, count):

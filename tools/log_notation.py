@@ -5,15 +5,16 @@ Between semicolons stand items `POSITION RECORD`; the position may be left out, 
 
     running next N oldest N latest N [overflow] [subs X ..] [xids X ..]     running transactions
     checkpoint redo L next N oldest N [shutdown]      backup-end L      eor TLI from TLI
-    insert X B,L (VALUES) [init|image] [in TABLE]     hot X B,L to L (VALUES) [prefix N] [suffix N]
-    update X B,L to B,L (VALUES) [init] [prefix N] [suffix N]
-    multi-insert X block B (VALUES) (VALUES) ..
-    delete X B,L [image]       lock-row X B,L by XMAX bits N [image]
+    insert X B,L (VALUES) [init|image] [in TABLE]     hot X B,L to L (VALUES) [prefix N] [suffix N] [by XMAX bits N]
+    update X B,L to B,L (VALUES) [init] [prefix N] [suffix N] [by XMAX bits N]
+    multi-insert X block B (VALUES) (VALUES) .. [frozen]    into a page made anew
+    delete X B,L [by XMAX bits N] [image]
+    lock-row X B,L by XMAX bits N [image]             lock-row X B,L multi N [image]    by N bits 1
+    multi N members X STATUS, .. [offset N] [by X]    a multixact; X..X STATUS for members one after the other
     prune X block B [redirect L-L ..] [dead L ..] [unused L ..]
     vacuum block B unused L .. [image]                dead lines become unused
-    freeze X block B plan INFOMASK lines L ..
+    freeze X block B plan INFOMASK [by XMAX] lines L ..
     visible X block B flags N [image]                 the map's block is that of B, the heap's block 1
-    members X multi N offset N of X STATUS, ..        a multixact and its members
     commit X [subs X ..] [drops TABLE]                abort X [subs X ..]
     assign X subs X ..         lock X TABLE           truncate X TABLE to B
     switch      overwrite L    pad L     restore NAME
@@ -25,7 +26,12 @@ Between semicolons stand items `POSITION RECORD`; the position may be left out, 
     rounds A..B ITEM & ITEM .. the items, one after another, with each number in the place of `@`, which is reckoned
                                in the same way
     poke L HEX                 turns bytes that were written into others
+    hint B,L HEX               marks that the page's own tuple bears from here on: no record, but images show them
     prelude                    running, checkpoint and backup-end as a log begins behind a backup
+
+Where no `by` names the xmax of a delete or an update, it is X, with the bits 16 or 0 (heapam_xlog.h: 1 a multixact, 2
+lock only, 4 exclusive, 8 key share, 16 keys updated). The record of a multixact has the xid behind its `by`, else that
+of its last member, which mostly makes it.
 
 Values are a row's of the table that is named, else of t: (1,one), with `null`, `external`, or `x*40` for 40 times
 the character. The tables are t (file 16385; id int4, note text) and u (file 16390; id int4), in database 16384."""
@@ -177,6 +183,7 @@ class Log:
         return self.add(Body(2, 0x20, xid, struct.pack("<IIIIi", block, *table.rel, 7)))
 
     def multi(self, xid, id, members, offset=0):
+        """XLOG_MULTIXACT_CREATE_ID (multixact.h); members are (xid, status)."""
         main = struct.pack("<IIi", id, offset, len(members))
         main += b"".join(struct.pack("<Ii", x & 0xFFFFFFFF, s) for x, s in members)
         return self.add(Body(6, 0x20, xid, main))
@@ -202,28 +209,28 @@ class Log:
         info = 0x80 if init else 0x00
         return self.add(Body(10, info, xid, struct.pack("<HB", line, 0), [ref]), [page])
 
-    def multi_insert(self, xid, block, rows, table=None):
-        """Into a page made anew: lines 1 to the count of rows."""
+    def multi_insert(self, xid, block, rows, table=None, frozen=False):
+        """Into a page made anew: lines 1 to the count of rows; frozen as COPY FREEZE writes them."""
         table = table or self.table
         page, data = self.page(table, block, True), b""
         for line, values in enumerate(rows, 1):
             mask, hoff, rest = form(table.columns, values)
-            mask, mask2 = mask | 0x0800, len(table.columns)
+            mask, mask2 = mask | (0x0B00 if frozen else 0x0800), len(table.columns)
             page.put(line, tuple_bytes(xid, (block, line), mask2, mask, hoff, rest))
             data += bytes(len(data) % 2)
             data += struct.pack("<HHHB", len(rest), mask2, mask, hoff) + rest
-        main = struct.pack("<BxH", 0, len(rows))
+        main = struct.pack("<BxH", 0x20 if frozen else 0, len(rows))
         ref = Block(table.rel, block, data, True)
         return self.add(Body(9, 0xD0, xid, main, [ref]), [page])
 
     def update(self, xid, old, new, values, hot=False, prefix=0, suffix=0, init=False,
-               images=(), table=None):
+               images=(), table=None, xmax=None, bits=0):
         """`images` holds the blocks that carry their image."""
-        table = table or self.table
+        table, xmax = table or self.table, xid if xmax is None else xmax
         mask, hoff, rest = form(table.columns, values)
         mask, mask2 = mask | 0x0800, len(table.columns) | (0x8000 if hot else 0)
         old_page = self.page(table, old[0])
-        mark(old_page.lines[old[1] - 1], xid, 0, new, hot)
+        mark(old_page.lines[old[1] - 1], xmax, bits, new, hot)
         new_page = self.page(table, new[0], init)
         new_page.put(new[1], tuple_bytes(xid, new, mask2, mask, hoff, rest))
         fixed, user = rest[:hoff - 23], rest[hoff - 23:]
@@ -234,15 +241,15 @@ class Log:
         if old[0] != new[0]:
             refs.append(self.block(table, old[0], b"", False, old[0] in images))
         flags = (0x20 if prefix else 0) | (0x40 if suffix else 0)
-        main = struct.pack("<IHBBIH", xid & 0xFFFFFFFF, old[1], 0, flags, 0, new[1])
+        main = struct.pack("<IHBBIH", xmax & 0xFFFFFFFF, old[1], bits, flags, 0, new[1])
         info = (0x40 if hot else 0x20) | (0x80 if init else 0)
         return self.add(Body(10, info, xid, main, refs), {old_page, new_page})
 
-    def delete(self, xid, block, line, image=False, table=None):
-        table = table or self.table
+    def delete(self, xid, block, line, image=False, table=None, xmax=None, bits=16):
+        table, xmax = table or self.table, xid if xmax is None else xmax
         page = self.page(table, block)
-        mark(page.lines[line - 1], xid, 16, (block, line))
-        main = struct.pack("<IHBB", xid & 0xFFFFFFFF, line, 16, 0)
+        mark(page.lines[line - 1], xmax, bits, (block, line))
+        main = struct.pack("<IHBB", xmax & 0xFFFFFFFF, line, bits, 0)
         ref = self.block(table, block, b"", False, image)
         return self.add(Body(10, 0x10, xid, main, [ref]), [page])
 
@@ -296,15 +303,15 @@ class Log:
         return self.add(Body(9, 0x40, 0, main, refs), [self.page(table, block)] if image else [])
 
     def freeze(self, horizon, block, plans, table=None):
-        """Plans are (infomask, lines); xmax 0, infomask2 the number of columns."""
+        """Plans are (infomask, xmax, lines); infomask2 is the number of columns."""
         table = table or self.table
         page, head, tail = self.page(table, block), b"", b""
         mask2 = len(table.columns)
-        for mask, lines in plans:
-            head += struct.pack("<IHHBBH", 0, mask2, mask, 0, 0, len(lines))
+        for mask, xmax, lines in plans:
+            head += struct.pack("<IHHBBH", xmax & 0xFFFFFFFF, mask2, mask, 0, 0, len(lines))
             tail += struct.pack("<%dH" % len(lines), *lines)
             for line in lines:
-                struct.pack_into("<I", page.lines[line - 1], 4, 0)
+                struct.pack_into("<I", page.lines[line - 1], 4, xmax & 0xFFFFFFFF)
                 struct.pack_into("<HH", page.lines[line - 1], 18, mask2, mask)
         main = struct.pack("<IHB", horizon & 0xFFFFFFFF, len(plans), 0)
         ref = Block(table.rel, block, head + tail)
@@ -386,26 +393,27 @@ class Log:
 
     def read_multi_insert(self, words):
         rows = [self.values(row, self.table) for row in words.rows]
-        return self.multi_insert(int(words.list[0]), words.number("block"), rows)[0]
+        return self.multi_insert(int(words.list[0]), words.number("block"), rows, frozen=words.has("frozen"))[0]
 
     def read_hot(self, words):
         old = words.place(1)
         return self.update(int(words.list[0]), old, (old[0], words.number("to")),
                            self.values(words.rows[0], self.table), True,
-                           words.number("prefix", 0), words.number("suffix", 0))[0]
+                           words.number("prefix", 0), words.number("suffix", 0), **words.deleter())[0]
 
     def read_update(self, words):
         new = tuple(map(int, words.after("to").split(",")))
         return self.update(int(words.list[0]), words.place(1), new,
                            self.values(words.rows[0], self.table), False,
-                           words.number("prefix", 0), words.number("suffix", 0), words.has("init"))[0]
+                           words.number("prefix", 0), words.number("suffix", 0), words.has("init"),
+                           **words.deleter())[0]
 
     def read_delete(self, words):
-        return self.delete(int(words.list[0]), *words.place(1), words.has("image"))[0]
+        return self.delete(int(words.list[0]), *words.place(1), words.has("image"), **words.deleter())[0]
 
     def read_lock_row(self, words):
-        return self.lock_row(int(words.list[0]), *words.place(1), words.number("by"),
-                             words.number("bits"), words.has("image"))[0]
+        by = words.deleter() or {"xmax": words.number("multi"), "bits": 1}
+        return self.lock_row(int(words.list[0]), *words.place(1), image=words.has("image"), **by)[0]
 
     def read_prune(self, words):
         redirects = [tuple(map(int, w.split("-"))) for w in words.list if re.match(r"\d+-\d+$", w)]
@@ -419,14 +427,21 @@ class Log:
         return self.visible(int(words.list[0]), words.number("block"), words.number("flags"), words.has("image"))[0]
 
     def read_freeze(self, words):
-        plans = re.findall(r"plan ([0-9A-F]{4}) lines ([0-9 ]+)", words.text)
+        plans = re.findall(r"plan ([0-9A-F]{4})(?: by (\d+))? lines ([0-9 ]+)", words.text)
         return self.freeze(int(words.list[0]), words.number("block"),
-                           [(int(m, 16), numbers(n.split())) for m, n in plans])[0]
+                           [(int(m, 16), int(x or 0), numbers(n.split())) for m, x, n in plans])[0]
 
-    def read_members(self, words):
-        pairs = re.findall(r"(\d+) (\d+)", words.text.split(" of ")[1])
-        return self.multi(int(words.list[0]), words.number("multi"),
-                          [(int(x), int(s)) for x, s in pairs], words.number("offset", 0))[0]
+    def read_multi(self, words):
+        runs = re.findall(r"([0-9.]+) (\d+)", re.split(r"members|offset|by", words.text)[1])
+        members = [(xid, int(status)) for run, status in runs for xid in numbers([run])]
+        by = words.number("by", members[-1][0] if members else 0)
+        return self.multi(by, int(words.list[0]), members, words.number("offset", 0))[0]
+
+    def read_hint(self, words):
+        block, line = words.place(0)
+        tup = self.page(self.table, block).lines[line - 1]
+        struct.pack_into("<H", tup, 20, struct.unpack_from("<H", tup, 20)[0] | int(words.list[1], 16))
+        return self.wal.at
 
     def read_commit(self, words):
         drops = [self.tables[words.after("drops")]] if words.has("drops") else ()
@@ -482,6 +497,10 @@ class Words:
 
     def place(self, index):
         return tuple(map(int, self.list[index].split(",")))
+
+    def deleter(self):
+        """The xmax of a delete, an update or a lock, and its bits, where they stand."""
+        return {"xmax": self.number("by"), "bits": self.number("bits")} if self.has("by") else {}
 
     def table(self, log):
         return log.tables[self.after("in")] if self.has("in") else log.table

@@ -7,9 +7,10 @@ evaluation of the definitions.
 It prints a line of what was run and ends with 0, or with 1 at the first difference, whose files it keeps in the folder
 `random-session-SEED-NUMBER`; `--seed SEED --first NUMBER --sessions 4` runs that log again.
 
-In the folder beside this file: `primary`, `transactions` and `changes` make the log, `records` and `archive` its bytes,
-`definitions` and `standby` are the evaluation, `legal` says whether a log is one that a primary could write, `misses` and
-`transaction_misses` make logs that nearly are, `alterations` changes one number of a log, and `requests` draws sessions."""
+In the folder beside this file: `primary`, `transactions`, `multixacts` and `changes` make the log, `records` and `archive`
+its bytes, `definitions` and `standby` are the evaluation, `legal` says whether a log is one that a primary could write,
+`misses`, `transaction_misses` and `multixact_misses` make logs that nearly are, `alterations` changes one number of a log,
+and `requests` draws sessions."""
 import sys
 
 from random_sessions.run import main

@@ -37,13 +37,15 @@ def tell(one, name):
     print("%s: %.0f MB of log, %d records, %d rows, which are the same; load %.1f" % (
         name, one.about["bytes"] / 1e6, sum(one.about["kinds"].values()), one.rows, os.getloadavg()[0]))
     print("  replay, ours               %s" % one.replay.tell())
+    print("  with large pages           %s" % one.large.tell())
     print("  recovery, best settings    %s" % one.best.tell())
     print("  recovery, default settings %s" % one.default.tell())
     print("  a scan, in a session       %s" % one.scan.tell())
     print("  COPY TO STDOUT             %s" % one.copy.tell())
-    each = [ours / theirs for ours, theirs in zip(one.replay.cpu, one.best.cpu)]
-    print("  processor time, ours to best settings %.2f (middle of the rounds %.2f), to default settings %.2f" % (
-        one.replay.least() / one.best.least(), statistics.median(each), one.replay.least() / one.default.least()))
+    for name, ours in (("ours", one.replay), ("with large pages", one.large)):
+        each = [mine / theirs for mine, theirs in zip(ours.cpu, one.best.cpu)]
+        print("  processor time, %s to best settings %.2f (middle of the rounds %.2f), to default settings %.2f" % (
+            name, ours.least() / one.best.least(), statistics.median(each), ours.least() / one.default.least()))
     one.tell_scan()
     sys.stdout.flush()
 

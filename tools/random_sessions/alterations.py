@@ -3,7 +3,7 @@ says, a standby has to answer by the definitions there too; so the log maker's o
 from .pages import header, with_header
 from .transactions import DATABASE
 
-MARKS = [0x0100, 0x0200, 0x0300, 0x0400, 0x0800, 0x0C00, 0x0080, 0x0040, 0x0010]
+MARKS = [0x0100, 0x0200, 0x0300, 0x0400, 0x0800, 0x0C00, 0x1000, 0x1000, 0x0080, 0x0040, 0x0010]
 
 # where a way fits by more than that the record has a field of its name; with the blocks of which no image is restored
 SPECIAL = {
@@ -26,6 +26,7 @@ class Alteration:
     def __init__(self, draw, log):
         self.draw, self.log = draw, log
         self.xids = sorted({record.xid for record in log.records} | set(log.tops) | {0, 3})
+        self.ids = sorted({record.id for record in log.records if record.kind == "multixact"})
 
     def records(self):
         """The records with one that is changed."""
@@ -45,6 +46,12 @@ class Alteration:
     def xid(self):
         return self.draw.choice(self.xids) + self.draw.choice([0, 0, 0, 1])
 
+    def deleter(self, is_multi):
+        """Another xmax: mostly a multixact where it is one, else a transaction."""
+        if self.ids and is_multi != (self.draw.random() < 0.1):
+            return self.draw.choice(self.ids)
+        return self.xid()
+
     def near(self, number):
         return max(0, number + self.draw.choice([-2, -1, 1, 2]))
 
@@ -54,10 +61,20 @@ class Alteration:
         record.xid = self.xid()
 
     def other_xmax(self, record):
-        record.xmax = self.xid()
+        record.xmax = self.deleter(record.bits & 1 > 0)
 
     def other_new_xmax(self, record):
-        record.new_xmax = self.xid()
+        record.new_xmax = self.deleter(record.blocks[0].tuples[0].mask & 0x1000 > 0)
+
+    def other_id(self, record):
+        record.id = self.draw.choice(self.ids + [0, record.id + 1 & 0xFFFFFFFF])
+
+    def other_members(self, record):
+        """Another transaction or another status of a member; mostly of one that updates, or to one that does."""
+        at = self.draw.randrange(len(record.members))
+        xid, status = record.members[at]
+        record.members[at] = self.draw.choice([(self.xid(), status), (xid, self.draw.choice([0, 3, 4, 5])),
+                                               (xid, status ^ 4)])
 
     def other_line(self, record):
         record.line = self.near(record.line)
@@ -66,7 +83,7 @@ class Alteration:
         record.new_line = self.near(record.new_line)
 
     def other_bits(self, record):
-        record.bits ^= self.draw.choice([2, 4, 8, 16])
+        record.bits ^= self.draw.choice([1, 2, 4, 8, 16])
 
     def other_flags(self, record):
         record.flags ^= self.draw.choice([0x08, 0x10])
@@ -135,7 +152,7 @@ class Alteration:
         at = self.draw.randrange(len(record.plans))
         xmax, mask2, mask, lines = record.plans[at]
         record.plans[at] = self.draw.choice([
-            (self.xid(), mask2, mask, lines), (xmax, mask2, mask ^ self.draw.choice(MARKS), lines),
+            (self.deleter(mask & 0x1000 > 0), mask2, mask, lines), (xmax, mask2, mask ^ self.draw.choice(MARKS), lines),
             (xmax, mask2, mask, [self.draw.randrange(1, 9)] + lines[1:])])
 
     def other_tuple(self, record):
@@ -150,5 +167,6 @@ class Alteration:
             at = self.draw.choice(lines)
             head = header(items[at])
             what = self.draw.choice([7, 7, 7, 0, 1, 2])
-            head[what] = head[7] ^ self.draw.choice(MARKS) if what == 7 else self.xid()
+            other = {7: head[7] ^ self.draw.choice(MARKS), 1: self.deleter(head[7] & 0x1000 > 0)}
+            head[what] = other.get(what, self.xid())
             items[at] = with_header(items[at], head)

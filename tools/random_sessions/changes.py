@@ -1,5 +1,6 @@
 """The random primary's changes of its tables: which rows it inserts, deletes, updates, locks, removes and freezes."""
 from .definitions import ALWAYS, NOBODY, lock_only, masks, version_at
+from .multixacts import XMAX_MARKS
 from .pages import born, header, is_tuple, item, room
 from .records import Block, Image, NewTuple, Record
 from .values import COMPRESSED, EXTERNAL, NEITHER, formed
@@ -149,8 +150,9 @@ class HeapChanges:
         """A tuple of a page that is written whole, at times with a deleter."""
         xmax = 0
         if self.chance(0.25):
-            xmax = self.draw.choice(self.assigned)
-            new.mask &= ~0x0800
+            is_multi = self.chance(self.chance_of_multi)
+            xmax, marks = self.shown_multixact() if is_multi else (self.draw.choice(self.assigned), 0)
+            new.mask = new.mask & ~0x0800 | marks
         return born(xid, xmax, number, line, new)
 
     # Deleters.
@@ -160,11 +162,15 @@ class HeapChanges:
         def test(v):
             if (table.rel, v.block, v.line) in self.speculative or v.inserter == NOBODY:
                 return False
-            spent = v.deleter is None or self.d.failed(v.deleter, self.n)
             own = v.inserter != ALWAYS and self.log.top(v.inserter) == self.log.top(xid)
             own = own and (self.d.live(v.inserter, self.n) or self.chance(0.1))
-            return spent and (own or v.inserter == ALWAYS or self.d.committed(v.inserter, self.n))
+            return self.is_spent(v) and (own or v.inserter == ALWAYS or self.d.committed(v.inserter, self.n))
         return self.holding(table.rel, test)
+
+    def is_spent(self, v):
+        """The version's deleter never counts: it is none, or failed."""
+        deleter = self.d.deleting(v.deleter, self.n)
+        return deleter is None or self.d.failed(deleter, self.n)
 
     def some_row(self):
         """(table, transaction, version) for a delete, an update or a lock; or None."""
@@ -179,8 +185,9 @@ class HeapChanges:
         if found is None:
             return False
         table, xid, v = found
-        bits, flags = self.draw.choice([0, 16]), self.draw.choice([0, 0, 0, 1, 2, 0x10])
-        return self.write(Record("delete", xid, [Block(table.rel, v.block)], xmax=xid, line=v.line, bits=bits, flags=flags))
+        xmax, bits = self.deleter_by(xid, self.chance(0.5))
+        flags = self.draw.choice([0, 0, 0, 1, 2, 0x10])
+        return self.write(Record("delete", xid, [Block(table.rel, v.block)], xmax=xmax, line=v.line, bits=bits, flags=flags))
 
     def update(self):
         found = self.some_row()
@@ -208,7 +215,8 @@ class HeapChanges:
             elif block.init:
                 return False
         block.tuples = [new]
-        return self.write(Record("update", xid, blocks, xmax=xid, line=v.line, bits=self.draw.choice([0, 16]),
+        xmax, bits = self.deleter_by(xid, self.chance(0.5))
+        return self.write(Record("update", xid, blocks, xmax=xmax, line=v.line, bits=bits,
                                  flags=flags, new_xmax=new_xmax, new_line=lines[0], hot=hot))
 
     def store_same(self, new, old):
@@ -218,11 +226,15 @@ class HeapChanges:
         new.hoff, new.rest = old[22], old[23:]
 
     def kept_locker(self, old, new):
-        """A live transaction that locks the old version's key goes on to lock the new one's."""
+        """Live transactions that lock the old version's key go on to lock the new one's. A new version may also show a
+        multixact whose updater failed."""
         head = header(old)
-        if lock_only(head[7]) and head[7] & 0x0010 and self.d.live(head[1], self.n) and self.chance(0.7):
-            new.mask = new.mask & ~0x0800 | 0x0090
+        if lock_only(head[7]) and head[7] & 0x0010 and self.locks_still(head) and self.chance(0.7):
+            new.mask = new.mask & ~0x0800 | 0x0090 | head[7] & 0x1000
             return head[1]
+        if self.chance(self.chance_of_multi / 5):
+            new.mask = new.mask & ~0x0800 | 0x1040
+            return self.make(self.with_lockers(self.failed_updater()))
         return 0
 
     def shared_ends(self, old, new):
@@ -239,7 +251,7 @@ class HeapChanges:
         return (0x20 if prefix else 0) | (0x40 if suffix else 0)
 
     def lock_row(self):
-        """A row lock, or the same deleter once more."""
+        """A row lock, or the same transaction as deleter once more."""
         kind = self.draw.choice(["lock", "lock", "lock-updated"])
         if self.chance(0.25):
             table = self.some_table()
@@ -247,14 +259,15 @@ class HeapChanges:
             if not rows:
                 return False
             v = self.draw.choice(rows)
-            return self.write(Record(kind, self.draw.choice([0] + self.live()), [Block(table.rel, v.block)], xmax=v.deleter,
-                                     line=v.line, bits=self.draw.choice([0, 16]), flags=0))
+            xmax, bits = self.deleter_again(v)
+            return self.write(Record(kind, self.draw.choice([0] + self.live()), [Block(table.rel, v.block)], xmax=xmax,
+                                     line=v.line, bits=bits, flags=0))
         found = self.some_row()
         if found is None:
             return False
         table, xid, v = found
-        bits = self.draw.choice([2 | 8, 2 | 8, 2 | 8, 2 | 4, 2 | 4 | 16, 2 | 4 | 8, 4])
-        return self.write(Record(kind, xid, [Block(table.rel, v.block)], xmax=xid, line=v.line, bits=bits, flags=0))
+        xmax, bits = self.lock_by(xid)
+        return self.write(Record(kind, xid, [Block(table.rel, v.block)], xmax=xmax, line=v.line, bits=bits, flags=0))
 
     # Removals.
 
@@ -273,15 +286,17 @@ class HeapChanges:
     def is_removable(self, v):
         if v.inserter == NOBODY or v.inserter != ALWAYS and self.d.failed(v.inserter, self.n):
             return True
-        return v.deleter is not None and self.d.committed(v.deleter, self.n)
+        deleter = self.d.deleting(v.deleter, self.n)
+        return deleter is not None and self.d.committed(deleter, self.n)
 
     def needed_for(self, v):
         """The least horizon with which a version may be removed; 0 where any will do."""
         if not self.d.counts(v.inserter, self.n):
             return 0
-        if v.inserter != ALWAYS and self.log.top(v.inserter) == self.log.top(v.deleter):
+        deleter = self.d.deleting(v.deleter, self.n)
+        if v.inserter != ALWAYS and self.log.top(v.inserter) == self.log.top(deleter):
             return 0
-        return self.d.least_horizon(v.deleter)
+        return self.d.least_horizon(deleter)
 
     def prune(self):
         table = self.some_table()
@@ -351,15 +366,17 @@ class HeapChanges:
 
     def plan_for(self, v, it):
         """((xmax, infomask2, infomask), the least horizon) with which a tuple may be frozen."""
-        (mask2, mask), xmax, needed = masks(it), header(it)[1], 0
+        head, (mask2, mask), needed = header(it), masks(it), 0
         if not v.frozen and self.d.committed(v.inserter, self.n) and self.chance(0.8):
             mask, needed = mask | 0x0300, self.d.least_horizon(v.inserter)
         elif mask & 0x0300 == 0 and self.chance(0.5):
             mask |= 0x0100 if self.d.committed(v.inserter, self.n) else 0x0200 if self.d.failed(v.inserter, self.n) else 0
-        spent = v.deleter is None or self.d.failed(v.deleter, self.n)
-        if spent and not (lock_only(mask) and self.d.live(xmax, self.n)) and self.chance(0.8):
+        if self.is_spent(v) and not self.locks_still(head) and self.chance(0.8):
             return (0, mask2 & ~0x6000, mask & ~0x14D0 | 0x0800), needed
-        return (xmax, mask2, mask), needed
+        if mask & 0x1000 and self.chance(0.5):
+            xmax, marks = self.plan_of_multixact(v, head)
+            return (xmax, mask2, mask & ~XMAX_MARKS | marks), needed
+        return (head[1], mask2, mask), needed
 
     def visible(self):
         table = self.some_table()
@@ -377,7 +394,8 @@ class HeapChanges:
             return False
         blocks = []
         for id, place in enumerate(self.draw.sample(places, min(len(places), self.draw.choice([1, 1, 2, 3])))):
-            blocks.append(Block(*place, image=Image(self.hinted(self.pages[place]), self.chance(0.9)), id=id))
+            items = self.pages[place]
+            blocks.append(Block(*place, image=Image(self.hinted(items, items), self.chance(0.9)), id=id))
         return self.write(Record("images", self.draw.choice([0] + self.live()), blocks, hint=True))
 
     def truncate(self):

@@ -1,15 +1,19 @@
-"""What a log says, by the definitions: which transactions committed or ended, the versions of rows, rows, locks, drops
-and conflicts. It is reckoned from the records alone, by a fold over their steps on rows; no page stands behind it.
+"""What a log says, by the definitions: which transactions committed or ended, which multixacts were made, the versions of
+rows, rows, locks, drops and conflicts. It is reckoned from the records alone, by a fold over their steps on rows; no page
+stands behind it.
 
 A log is a list of records, oldest first; `n` is the number of records of a front of it. The definitions stand in the
-crates transaction_model (Transactions), row_model (Versions, RowSteps, Rows, Locks) and recovery_conflict (Causes)."""
+crates transaction_model (Transactions), multixact (Made), row_model (Versions, Multixacts, RowSteps, Rows, Locks) and
+recovery_conflict (Causes)."""
 import struct
 from bisect import bisect_left
 from collections import namedtuple
 
 NOBODY, ALWAYS = "nobody", "always"
 
-# who inserted a version is a transaction, NOBODY (taken back) or ALWAYS (born frozen); its deleter a transaction or None
+# who inserted a version is a transaction, NOBODY (taken back) or ALWAYS (born frozen); its deleter is None, a transaction,
+# or a multixact that stands for its updater
+Multi = namedtuple("Multi", "id")
 Version = namedtuple("Version", "block line inserter deleter frozen holds tuple")
 Plan = namedtuple("Plan", "xmax mask2 mask")
 
@@ -40,9 +44,15 @@ def xmin(version):
     return struct.unpack_from("<I", version, 0)[0]
 
 
+def deleter_by(xmax, mask):
+    """The deleter that an xmax with this infomask is."""
+    if lock_only(mask) or xmax == 0:
+        return None
+    return Multi(xmax) if mask & 0x1000 else xmax
+
+
 def deleter_shown(version):
-    xmax, mask = struct.unpack_from("<I", version, 4)[0], masks(version)[1]
-    return None if lock_only(mask) or xmax == 0 else xmax
+    return deleter_by(struct.unpack_from("<I", version, 4)[0], masks(version)[1])
 
 
 def is_frozen(version):
@@ -55,12 +65,21 @@ def values(version):
 
 def deleter_marked(xmax, bits):
     """The deleter that a tuple shows once a record marked it with these bits."""
-    mask = (0x0080 if bits & 2 else 0) | (0x0040 if bits & 4 else 0) | (0x0010 if bits & 8 else 0)
-    return None if lock_only(mask) or xmax == 0 else xmax
+    marks = (1, 0x1000), (2, 0x0080), (4, 0x0040), (8, 0x0010)
+    return deleter_by(xmax, sum(mask for bit, mask in marks if bits & bit))
 
 
 def deleter_planned(plan):
-    return None if lock_only(plan.mask) or plan.xmax == 0 else plan.xmax
+    return deleter_by(plan.xmax, plan.mask)
+
+
+def is_update(status):
+    """A member updates or deletes, and does not only lock (MultiXactStatusNoKeyUpdate, MultiXactStatusUpdate)."""
+    return status in (4, 5)
+
+
+def updater_among(members):
+    return next((xid for xid, status in members if is_update(status)), None)
 
 
 # Steps on rows: (what, block, line, ..).
@@ -229,12 +248,13 @@ class Definitions:
     def __init__(self, log):
         self.log, self.records = log, log.records
         self.committed_from, self.finished_from, self.assigned_from, self.low = {}, {}, {}, [0]
+        self.made = {}
         for n, record in enumerate(self.records):
             self.tell(n, record)
         self.rows_told = {table.rel: [([], 0)] for table in log.tables}
 
     def tell(self, n, record):
-        """What a record says of transactions."""
+        """What a record says of transactions and multixacts."""
         low = self.low[-1]
         if record.kind in ("commit", "abort"):
             for xid in [record.xid] + record.subs:
@@ -244,6 +264,8 @@ class Definitions:
         elif record.kind == "assignment":
             for xid in record.subs:
                 self.assigned_from.setdefault(xid, n)
+        elif record.kind == "multixact" and record.id:
+            self.made.setdefault(record.id, []).append((n, updater_among(record.members)))
         elif record.kind == "running":
             low = max(low, record.oldest)
         elif record.kind == "checkpoint" and record.shutdown:
@@ -296,6 +318,22 @@ class Definitions:
         """A live subtransaction was assigned by then."""
         return any(number < n and self.live(xid, n) for xid, number in self.assigned_from.items())
 
+    # Multixacts. One that was made twice is as it was made last; id 0 is none.
+
+    def updaters(self, id, n):
+        """The updater of a multixact each time it was made: a transaction, or None where all its members lock."""
+        return [updater for number, updater in self.made.get(id, []) if number < n]
+
+    def was_made(self, deleter, n):
+        """A deleter is no multixact, or one that was made."""
+        return not isinstance(deleter, Multi) or bool(self.updaters(deleter.id, n))
+
+    def deleting(self, deleter, n):
+        """The transaction that a deleter stands for, or None."""
+        if not isinstance(deleter, Multi):
+            return deleter
+        return next(reversed(self.updaters(deleter.id, n)), None)
+
     # Rows.
 
     def told(self, rel, n):
@@ -324,7 +362,8 @@ class Definitions:
         return inserter == ALWAYS or inserter != NOBODY and self.committed(inserter, n)
 
     def is_row(self, v, n):
-        return self.counts(v.inserter, n) and not (v.deleter is not None and self.committed(v.deleter, n))
+        deleter = self.deleting(v.deleter, n)
+        return self.counts(v.inserter, n) and not (deleter is not None and self.committed(deleter, n))
 
     def rows(self, rel, n):
         """The rows after n records, in order of place."""

@@ -6,8 +6,11 @@ on the definitions, not on what the log maker knew as it wrote.
 import struct
 
 from .definitions import ALWAYS, NOBODY, changes, deleter_planned, deleter_shown, drops, is_anew, is_frozen, is_normal, \
-    masks, overflows, steps_of, version_at, with_step, xmin
+    is_update, masks, overflows, steps_of, version_at, with_step, xmin
 from .pages import NoRedo, redo
+
+MADE_BEFORE, MADE_ONCE = "multixacts: one that is shown was made before", "multixacts: each is made once"
+ONE_UPDATER, NO_ID_0 = "multixacts: one updater at most", "multixacts: the id is not 0"
 
 
 def named_by(record):
@@ -47,6 +50,8 @@ class Legality:
         return self.broken
 
     def record(self, n, record):
+        if record.kind == "multixact":
+            self.multixact(n, record)
         places = [(block.rel, block.number) for block in record.blocks]
         self.ask(len(places) == len(set(places)), "blocks apart")
         self.transactions(n, record)
@@ -138,6 +143,16 @@ class Legality:
         nexts = [record.next for record in self.records[:n] if record.kind == "running"]
         return max(named, default=0), max(nexts, default=0)
 
+    # Multixacts (NewMultixactRule, MultixactStep).
+
+    def multixact(self, n, record):
+        self.ask(record.id != 0, NO_ID_0)
+        self.ask(not self.d.updaters(record.id, n), MADE_ONCE)
+        self.ask(sum(is_update(status) for _, status in record.members) <= 1, ONE_UPDATER)
+
+    def is_made(self, n, deleter):
+        self.ask(self.d.was_made(deleter, n), MADE_BEFORE)
+
     # Tables (TableRule).
 
     def table(self, n, record, table):
@@ -163,6 +178,8 @@ class Legality:
     def step(self, n, record, table, versions, step):
         if step[0] == "born":
             return self.birth(n, table, versions, *step[1:])
+        if step[0] in ("deleter", "frozen"):
+            self.is_made(n, step[3] if step[0] == "deleter" else deleter_planned(step[3]))
         v = version_at(versions, *step[1:3])
         if v is None:
             return None
@@ -176,12 +193,15 @@ class Legality:
         return self.plan(n, v, record.horizon, step[3])
 
     def birth(self, n, table, versions, block, line, it, whole):
+        self.is_made(n, deleter_shown(it))
         self.ask(version_at(versions, block, line) is None and self.d.live(xmin(it), n), "births")
         self.ask(masks(it)[1] & 0x0300 == 0 or is_frozen(it) and self.d.is_under_lock(table, xmin(it), n), "births")
         self.ask(masks(it)[1] & 0x0400 == 0 and (whole or self.is_spent(n, deleter_shown(it))), "births")
 
     def is_spent(self, n, deleter):
-        return deleter is None or self.d.failed(deleter, n)
+        """A deleter never counts: it is none, or stands for none or for a transaction that failed."""
+        xid = self.d.deleting(deleter, n)
+        return xid is None or self.d.failed(xid, n)
 
     def is_same_tree(self, x, y):
         return self.log.top(x) == self.log.top(y)
@@ -192,20 +212,22 @@ class Legality:
         return self.d.committed(inserter, n) or self.is_same_tree(inserter, xid)
 
     def deleter(self, n, v, now):
-        stays = now == v.deleter
-        takes = now is not None and self.d.live(now, n) and self.is_spent(n, v.deleter)
-        takes = takes and self.may_delete(n, v.inserter, now)
+        xid = self.d.deleting(now, n)
+        stays = xid == self.d.deleting(v.deleter, n)
+        takes = xid is not None and self.d.live(xid, n) and self.is_spent(n, v.deleter)
+        takes = takes and self.may_delete(n, v.inserter, xid)
         fades = self.is_spent(n, v.deleter) and self.is_spent(n, now)
         self.ask(stays or takes or fades, "deleters")
 
     def may_be_removed(self, n, v, horizon):
         if v.inserter == NOBODY or v.inserter != ALWAYS and self.d.failed(v.inserter, n):
             return True
-        if v.deleter is None or not self.d.committed(v.deleter, n):
+        deleter = self.d.deleting(v.deleter, n)
+        if deleter is None or not self.d.committed(deleter, n):
             return False
-        if v.inserter != ALWAYS and self.is_same_tree(v.inserter, v.deleter):
+        if v.inserter != ALWAYS and self.is_same_tree(v.inserter, deleter):
             return True
-        return not self.d.counts(v.inserter, n) or self.d.covers(horizon, v.deleter)
+        return not self.d.counts(v.inserter, n) or self.d.covers(horizon, deleter)
 
     def plan(self, n, v, horizon, plan):
         head = struct.pack("<I", 0 if v.inserter == NOBODY else xmin(v.tuple))
@@ -243,9 +265,10 @@ class Legality:
                 return False
             if mask & 0x0300 == 0x0200 and not self.d.failed(v.inserter, n):
                 return False
-        if v.deleter is None:
+        deleter = self.d.deleting(v.deleter, n)
+        if deleter is None:
             return True
-        return (mask & 0x0400 == 0 or self.d.committed(v.deleter, n)) and (mask & 0x0800 == 0 or self.d.failed(v.deleter, n))
+        return (mask & 0x0400 == 0 or self.d.committed(deleter, n)) and (mask & 0x0800 == 0 or self.d.failed(deleter, n))
 
     def renewal(self):
         """From each redo position on, the first record that changes a block restores it or makes it anew."""

@@ -1,9 +1,9 @@
 """Near misses: logs that differ from a legal one in one thing, and that no primary could write (those on transactions are
-in transaction_misses.py).
+in transaction_misses.py, those on multixacts in multixact_misses.py).
 
 Of each, the check of legality has to say that it is none. Where a standby answers otherwise than the rows of the log are,
 the miss was one that matters to a scan; the sessions of a miss are drawn so that it may."""
-from . import transaction_misses
+from . import multixact_misses, transaction_misses
 from .definitions import ALWAYS, NOBODY, drops, version_at
 from .pages import header, with_header
 from .transaction_misses import Miss, reading
@@ -59,11 +59,12 @@ def false_marks(d, n, v):
             yield v.inserter, 0x0300, 0x0100
         if not d.failed(v.inserter, n):
             yield v.inserter, 0x0300, 0x0200
-    if v.inserter != NOBODY and v.deleter is not None:
-        if not d.committed(v.deleter, n):
-            yield v.deleter, 0x0C00, 0x0400
-        if not d.failed(v.deleter, n):
-            yield v.deleter, 0x0C00, 0x0800
+    deleter = d.deleting(v.deleter, n)
+    if v.inserter != NOBODY and deleter is not None:
+        if not d.committed(deleter, n):
+            yield deleter, 0x0C00, 0x0400
+        if not d.failed(deleter, n):
+            yield deleter, 0x0C00, 0x0800
 
 
 def mark_misses(log, d):
@@ -122,7 +123,7 @@ def lock_miss(draw, log, _):
     return Miss("lock", records, number, before + ["open " + table.name, "replay 1"] + reading(1, 1))
 
 
-KINDS = (horizon_miss, mark_miss, lock_miss) + transaction_misses.KINDS
+KINDS = (horizon_miss, mark_miss, lock_miss) + transaction_misses.KINDS + multixact_misses.KINDS
 
 
 def drawn(draw, log, d):

@@ -6,8 +6,9 @@ from wal_bytes import PAGE, Wal
 
 from . import records
 from .changes import HeapChanges
-from .definitions import Definitions, Log, deleter_shown, lock_only, masks, xmin
-from .pages import NoRedo, changed, header, is_left, is_tuple, redo, with_header
+from .definitions import Definitions, Log, deleter_shown, masks, xmin
+from .multixacts import Multixacts
+from .pages import NoRedo, changed, header, is_left, is_tuple, item, redo, with_header
 from .records import Block, Image, Record
 from .transactions import DATABASE, FOREIGN, Transactions
 
@@ -15,7 +16,7 @@ SEGMENT = 16 << 20
 START = 2 * SEGMENT + 0x28
 
 
-class Primary(HeapChanges, Transactions):
+class Primary(HeapChanges, Multixacts, Transactions):
     def __init__(self, draw, tables):
         self.draw, self.tables = draw, tables
         self.wal = Wal(START, 2 * SEGMENT - 0x68, system=7, segsize=SEGMENT)
@@ -26,6 +27,7 @@ class Primary(HeapChanges, Transactions):
         self.redo, self.redo_next = None, 0
         self.chance_of_image = draw.choice([0, 0.05, 0.3])
         self.begin_transactions()
+        self.begin_multixacts()
 
     @property
     def n(self):
@@ -64,21 +66,27 @@ class Primary(HeapChanges, Transactions):
         if before is None and not block.init and not (needs and block.number >= self.d.blocks(block.rel, self.n)):
             raise NoRedo("no page")
         items = changed(record, block, before or [])
-        block.image = Image(self.hinted(items), needs or self.chance(0.7))
+        block.image = Image(self.hinted(items, before or []), needs or self.chance(0.7))
         block.keeps = self.chance(0.2)
 
-    def hinted(self, items):
-        """The items as the primary's own page shows them, with some marks that are true by now."""
-        return [self.with_hints(it) if is_tuple(it) else it for it in items]
+    def hinted(self, items, before):
+        """The items as the primary's own page shows them, with some marks that are true by now; `before` are those that it
+        showed before the record."""
+        return [self.with_hints(it, is_tuple(item(before, line))) if is_tuple(it) else it
+                for line, it in enumerate(items, 1)]
 
-    def with_hints(self, it):
-        head, mask, deleter, inserter = header(it), masks(it)[1], deleter_shown(it), xmin(it)
+    def with_hints(self, it, is_older):
+        head, mask, inserter = header(it), masks(it)[1], xmin(it)
+        shown = deleter_shown(it)
+        deleter = self.d.deleting(shown, self.n)
         if mask & 0x0300 == 0 and inserter and self.chance(0.6):
             mask |= 0x0100 if self.d.committed(inserter, self.n) else 0x0200 if self.d.failed(inserter, self.n) else 0
         if deleter is not None and self.chance(0.6):
             mask |= 0x0400 if self.d.committed(deleter, self.n) else 0x0800 if self.d.failed(deleter, self.n) else 0
-        if deleter is None and not (lock_only(mask) and self.d.live(head[1], self.n)) and self.chance(0.4):
+        if deleter is None and not self.locks_still(head) and self.chance(0.4):
             mask |= 0x0800
+        if deleter is None and shown is not None and is_older and self.chance(0.2):
+            mask |= 0x0400
         if self.chance(0.1):
             head[2] = self.draw.randrange(5)
         head[7] = mask
@@ -216,10 +224,10 @@ class Primary(HeapChanges, Transactions):
 
 
 WEIGHTS = {
-    "insert": 14, "multi_insert": 4, "delete": 10, "update": 12, "lock_row": 4, "speculate": 3, "resolve": 4, "prune": 10,
-    "vacuum": 4, "freeze": 6, "visible": 3, "images": 3, "whole_page": 1.5, "truncate": 4, "lock": 1, "end": 22,
-    "nest": 2, "assign": 5, "running": 3, "begin_checkpoint": 3, "shutdown": 0.5, "pass_over": 3, "foreign": 1.5,
-    "switch": 0.3, "backup_end": 0.5, "give_up": 0.3}
+    "insert": 14, "multi_insert": 4, "delete": 10, "update": 12, "lock_row": 6, "multixact": 1, "speculate": 3,
+    "resolve": 4, "prune": 10, "vacuum": 4, "freeze": 6, "visible": 3, "images": 3, "whole_page": 1.5, "truncate": 4,
+    "lock": 1, "end": 22, "nest": 2, "assign": 5, "running": 3, "begin_checkpoint": 3, "shutdown": 0.5, "pass_over": 3,
+    "foreign": 1.5, "switch": 0.3, "backup_end": 0.5, "give_up": 0.3}
 
 # what may cancel a scan: a log without it shows what becomes of one that stays open
 CANCELLING = ["prune", "freeze", "visible", "truncate", "lock", "foreign"]

@@ -11,6 +11,7 @@ A record has a kind, the transaction id of its header, its blocks of the main fo
     truncate       blocks rel                     locks          entries, each (xid, database, oid)
     commit, abort  subs files                     assignment     top subs
     running        tops subs overflow next oldest latest
+    multixact      id offset members, each (xid, status)
     checkpoint     redo next shutdown             backup-end     redo
     other          manager info main              switch
 
@@ -181,6 +182,8 @@ BODIES = {
     "insert": insert, "multi-insert": multi_insert, "update": update, "prune": prune, "freeze": freeze, "locks": locks,
     "commit": ended, "abort": ended, "running": running, "checkpoint": checkpoint,
     "assignment": lambda r: (1, 0x50, struct.pack("<Ii", r.top, len(r.subs)) + numbers("<I", r.subs), b""),
+    "multixact": lambda r: (6, 0x20, struct.pack("<IIi", r.id, r.offset, len(r.members)) +
+                            b"".join(struct.pack("<Ii", *it) for it in r.members), b""),
     "delete": lambda r: (10, 0x10, marked(r), b""),
     "lock": lambda r: (10, 0x60, marked(r), b""),
     "lock-updated": lambda r: (9, 0x60, marked(r), b""),

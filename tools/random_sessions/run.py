@@ -151,7 +151,8 @@ class Trial:
         d = Definitions(Log(miss.records, log.tables, log.tops, log.database, log.start))
         found = legal.faults(d)
         self.told.update(["misses", "miss " + miss.what])
-        if not found or miss.clauses and found != [(miss.number, clause) for clause in miss.clauses]:
+        is_other = miss.clauses and found != [(miss.number, clause) for clause in miss.clauses]
+        if not found or is_other or miss.first not in (None, found[0]):
             raise Difference("a near miss (%s, at record %d) is not told apart, or breaks more: %s" % (
                 miss.what, miss.number, found))
         self.told["told apart"] += 1

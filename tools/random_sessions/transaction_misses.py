@@ -7,11 +7,12 @@ from .legal import named_by
 
 class Miss:
     """What was missed, the log's records, the number of the changed one, and the session that looks at it. `clauses` are
-    those that the record breaks, where the log breaks no other."""
+    those that the record breaks, where the log breaks no other; `first` is the first fault, (number of the record, clause),
+    where that is known."""
 
     def __init__(self, what, records, number, lines, clauses=()):
         self.what, self.records, self.number = what, records, number
-        self.clauses = ["transactions: " + clause for clause in clauses]
+        self.clauses, self.first = ["transactions: " + clause for clause in clauses], None
         self.source = b"".join(line.encode() + b"\n" for line in lines)
 
 

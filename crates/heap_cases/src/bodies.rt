@@ -3,13 +3,13 @@ ghost use Rattle.std.specs.Prelude.{◌≡◌};
 ghost use Rattle.page_store.specs.Content.{table_count};
 
 use crate::records::show;
-use case_text::{Answer, Wrong, bytes, number_u8, number_u64, position, words};
+use case_text::{Answer, Wrong, bytes, number_u64, position, words};
 use heap_redo::{RedoFault, redo};
 use page_store::Pool;
 use pg_types::{Locator, Lsn, Place, Xid};
 use std::alloc::Global;
 use table_schema::{Tables, read_schema};
-use wal_bodies::{BodyFault, Rec, RecKind, What, body};
+use wal_bodies::{BodyFault, Rec, What, body};
 use wal_record::{PrevRule, RecordView, decode};
 
 /// The described tables.
@@ -61,37 +61,19 @@ fn typed(
     }
 }
 
-/// The record with what no bytes that are read so can say: an id past 32 bits (`xid N`), or a delete by a
-/// multixact (`bits N`).
+/// The record with what no bytes that are read so can say: an id past 32 bits (`xid N`).
 fn with<'a>(rec: Rec<'a>, changes: &[&str]) -> Result<Rec<'a>, Wrong> {
     let mut head = rec.head;
-    let kind = match (rec.kind, changes) {
-        (kind, []) => kind,
-        (kind, ["xid", xid]) => {
-            head.xid = Xid(number_u64(*xid)?);
-            kind
-        }
-        (
-            RecKind::Delete {
-                xmax,
-                line,
-                flags,
-                ..
-            },
-            ["bits", bits],
-        ) => RecKind::Delete {
-            xmax,
-            line,
-            bits: number_u8(*bits)?,
-            flags,
-        },
+    match changes {
+        [] => {}
+        ["xid", xid] => head.xid = Xid(number_u64(*xid)?),
         _ => return Err(Wrong::Line),
-    };
+    }
     Ok(Rec {
         head,
         start: rec.start,
         end: rec.end,
-        kind,
+        kind: rec.kind,
         blocks: rec.blocks,
     })
 }

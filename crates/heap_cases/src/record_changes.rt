@@ -5,14 +5,14 @@ use crate::ids::{id, ids};
 use crate::known::show;
 use crate::statuses::name_of;
 use case_text::{Answer, Wrong, number_u32};
-use pg_types::Lsn;
+use pg_types::{Lsn, Unknown};
 use std::alloc::Global;
 use tuple_visibility::Statuses;
 use wal_bodies::{Rec, body};
 use wal_record::{PrevRule, decode};
 use xact_redo::{XactState, redo, reserve};
 
-/// `status IDS`, `topmost IDS` and `updater MULTIXACT` ask what is known, and `forget_below ID` forgets parents; behind
+/// `status IDS`, `topmost IDS` and `updater MULTIXACTS` ask what is known, and `forget_below ID` forgets parents; behind
 /// any other words stands a record.
 pub fn answer(
     alloc: Global,
@@ -40,9 +40,14 @@ pub fn answer(
             state.forget_below(id(oldest)?);
             Ok(())
         }
-        ["updater", id] => {
-            let known = state.updater(number_u32(id)?).is_ok();
-            said.say(if known { " known" } else { " unknown" });
+        ["updater", list] => {
+            for id in list.split(',') {
+                match state.updater(number_u32(id)?) {
+                    Ok(Some(xid)) => said.field(" ", xid.0),
+                    Ok(None) => said.say(" none"),
+                    Err(Unknown { .. }) => said.say(" unknown"),
+                }
+            }
             Ok(())
         }
         _ => {

@@ -3,7 +3,9 @@ use crate::removals::{show_lines, show_removal};
 use case_text::{Answer, Wrong};
 use pg_types::{Locator, Xid};
 use std::alloc::Global;
-use wal_bodies::{Locators, LockEntries, NewTuple, Rec, RecBlock, RecImage, RecKind, Xids};
+use wal_bodies::{
+    Locators, LockEntries, Members, NewTuple, Rec, RecBlock, RecImage, RecKind, Xids,
+};
 
 /// A record: its transaction and info, where it begins and ends, what it says, and its blocks.
 pub fn show(alloc: Global, rec: &Rec<'_>) -> Result<String, Wrong> {
@@ -40,6 +42,15 @@ fn show_kind(answer: &mut Answer, rec: &Rec<'_>) {
             answer.signed(i64::from(*flags));
         }
         RecKind::Locks { entries } => show_locks(answer, entries.again()),
+        RecKind::Multixact {
+            id,
+            offset,
+            members,
+        } => {
+            answer.field("multixact ", u64::from(*id));
+            answer.field(" offset ", u64::from(*offset));
+            show_members(answer, members.again());
+        }
         RecKind::BackupEnd { start } => answer.position("backup-end ", *start),
         RecKind::FullPageWrites { on: true } => answer.say("page-writes on"),
         RecKind::FullPageWrites { on: false } => answer.say("page-writes off"),
@@ -188,6 +199,19 @@ fn show_locks(answer: &mut Answer, entries: LockEntries<'_>) {
     }
     if is_first {
         answer.say("locks -");
+    }
+}
+
+/// The members of a multixact in the same way, each as its transaction and its status.
+fn show_members(answer: &mut Answer, members: Members<'_>) {
+    let mut is_first = true;
+    for member in members {
+        answer.field(if is_first { " members " } else { "," }, member.xid.0);
+        answer.field(" ", u64::from(member.status));
+        is_first = false;
+    }
+    if is_first {
+        answer.say(" members -");
     }
 }
 

@@ -6,7 +6,7 @@ use Rattle.page_store.specs.Content.{Blocks, truncated}
 use Rattle.page_store.specs.Seen.{Seen, absent, seen, View, view_of}
 use Rattle.typed_records.specs.declared.types.Rec.{Rec}
 use Rattle.typed_records.specs.declared.types.RecKind.{RecKind}
-use Rattle.typed_records.specs.declared.types.RecKind.TheVariants.{Checkpoint, BackupEnd, Parameters, FullPageWrites, Images, Overwrite, Ended, Assignment, Running, Insert, Delete, Update, Confirm, Lock, MultiInsert, LockUpdated, Prune, Vacuum, Freeze, Visible, Truncate, Locks, Other}
+use Rattle.typed_records.specs.declared.types.RecKind.TheVariants.{Checkpoint, BackupEnd, Parameters, FullPageWrites, Images, Overwrite, Ended, Assignment, Running, Insert, Delete, Update, Confirm, Lock, MultiInsert, LockUpdated, Prune, Vacuum, Freeze, Visible, Truncate, Locks, Multixact, Other}
 use Rattle.wal_bodies.specs.Typed.{is_commit}
 use Rattle.heap_redo.specs.Redone.{table_of, cut, cut_file, drop_files, cut_by, redone, redone_unless, redone_record}
 
@@ -109,6 +109,7 @@ cuts rec (Visible horizon flags) known = inl (λ view. refl)
 cuts rec (Truncate blocks locator flags) known =
     inr (λ view. cut_file view blocks (table_of known locator), λ view. refl, λ view. file-again blocks (table_of known locator) view)
 cuts rec (Locks entries) known = inl (λ view. refl)
+cuts rec (Multixact id offset members) known = inl (λ view. refl)
 cuts rec Other known = inl (λ view. refl)
 
 module _ (rec : Rec) (known : List Locator) where

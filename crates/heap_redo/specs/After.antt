@@ -14,7 +14,7 @@ use Rattle.typed_records.specs.declared.types.NewTuple.{NewTuple}
 use Rattle.typed_records.specs.declared.types.RecBlock.{RecBlock}
 use Rattle.typed_records.specs.declared.types.Rec.{Rec}
 use Rattle.typed_records.specs.declared.types.RecKind.{RecKind}
-use Rattle.typed_records.specs.declared.types.RecKind.TheVariants.{Checkpoint, BackupEnd, Parameters, FullPageWrites, Images, Overwrite, Ended, Assignment, Running, Insert, Delete, Update, Confirm, Lock, MultiInsert, LockUpdated, Prune, Vacuum, Freeze, Visible, Truncate, Locks, Other}
+use Rattle.typed_records.specs.declared.types.RecKind.TheVariants.{Checkpoint, BackupEnd, Parameters, FullPageWrites, Images, Overwrite, Ended, Assignment, Running, Insert, Delete, Update, Confirm, Lock, MultiInsert, LockUpdated, Prune, Vacuum, Freeze, Visible, Truncate, Locks, Multixact, Other}
 pub use Rattle.typed_records.specs.Blocks.{number_of}
 use Rattle.heap_redo.specs.TupleHeads.{Head, head_of, head_bytes, marked, pointing_to, deleted, replaced, locked, frozen}
 
@@ -204,6 +204,7 @@ changed rec block (Freeze horizon catalogue plans) items = freeze plans items
 changed rec block (Visible horizon flags) items = Ok items
 changed rec block (Truncate number locator flags) items = Ok items
 changed rec block (Locks entries) items = Ok items
+changed rec block (Multixact id offset members) items = Ok items
 changed rec block Other items = Ok items
 
 -- the page of an image
@@ -249,6 +250,7 @@ is_images (Freeze horizon catalogue plans) = false
 is_images (Visible horizon flags) = true
 is_images (Truncate number locator flags) = false
 is_images (Locks entries) = false
+is_images (Multixact id offset members) = false
 is_images Other = false
 
 -- the change of a page that is there, or is made anew

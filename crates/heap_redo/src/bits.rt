@@ -3,6 +3,8 @@ ghost use Rattle.pg_types.specs.Numbers.{has_bits};
 
 /// Bits of a record's flags and marks (heapam_xlog.h), and of the tuple's masks that they change.
 ///
+/// The xmax is a multixact (`XLHL_XMAX_IS_MULTI`).
+pub const IS_MULTI: u8 = 1;
 /// The xmax only locks (`XLHL_XMAX_LOCK_ONLY`).
 pub const LOCK_ONLY: u8 = 2;
 /// The lock is an exclusive one (`XLHL_XMAX_EXCL_LOCK`).

@@ -3,12 +3,12 @@ ghost use Rattle.byteorder.specs.Endian.{little_bytes};
 ghost use Rattle.heap_redo.specs.TupleHeads.{head_of, head_bytes, set_for, marked_mask, marked_mask2, marked, pointing_to, hot, pointing_after_delete, taken_back, deleted, replaced, unlinked_if_locked, locked, frozen};
 
 use crate::bits::{
-    EXCLUSIVE, KEY_SHARE, KEYS_UPDATED, LOCK_ONLY, PARTITION_MOVE, TAKEN_BACK, XMAX_BITS, has_bits,
+    EXCLUSIVE, IS_MULTI, KEY_SHARE, KEYS_UPDATED, LOCK_ONLY, PARTITION_MOVE, TAKEN_BACK, XMAX_BITS,
+    has_bits,
 };
 use byteorder::{ByteOrder, LittleEndian};
 use heap_tuple::is_lock_only;
 use pg_types::{u16_at, u32_at};
-use wal_bodies::IS_MULTI;
 
 /// What an update says of its two versions.
 #[derive(Clone, Copy)]

@@ -17,12 +17,13 @@ use Rattle.row_model.specs.Locks.{UnderLock, drops, is_gone, locks}
 use Rattle.row_model.specs.Shown.{IsSound}
 use Rattle.row_model.specs.RowSteps.{block_count, count_with, cut_of, cut_to, steps_of, versions}
 use Rattle.row_model.specs.LegalSteps.{horizon_of}
-use Rattle.row_model.specs.LegalRows.{LegalAlong, TableRule}
+use Rattle.row_model.specs.LegalRows.{LegalAlong, MakesMultixacts, TableRule}
+use Rattle.row_model.specs.Stays.{AlwaysStay}
 use Rattle.row_model.specs.Conflicts.{AreFree, conflicts}
 use Rattle.kept_rows.proofs.Since.{committed_since, covered_then, failed_then, live_then, tree_then}
 use Rattle.kept_rows.proofs.Unlocked.{no_lock}
 use Rattle.kept_rows.proofs.Free.{all_take_none, horizon_below, steps_somewhere}
-use Rattle.kept_rows.proofs.Carried.{AreCarried, KnowsWas, all_carried, carried_steps}
+use Rattle.kept_rows.proofs.Carried.{AreCarried, KnowsWas, all_carried, carried_later, carried_steps}
 
 -- a record leaves no fewer blocks, unless it cuts the table
 more_or_same : (t : Bool) (count block : ℕ) → count ≤ cond t (max count (block + 1)) count
@@ -44,7 +45,7 @@ uncut None count more never less = less
 uncut (Some blocks) count more never less = absurd (never blocks refl)
 
 -- a scan of the table is opened, with this least live id
-module _ (o : LogOrigin) (table : Locator) (opened : List Rec) (xmin : ℕ) (is_xmin : IsXmin o.transactions.at xmin (transactions_of opened))
+module _ (stay : AlwaysStay) (o : LogOrigin) (table : Locator) (opened : List Rec) (xmin : ℕ) (is_xmin : IsXmin o.transactions.at xmin (transactions_of opened))
     (present : is_gone table opened ≡ false) (unlocked : locks o table opened ≡ [])
     (sound : (block line : ℕ) (v : Version) → version_at block line (versions o table opened) ≡ Some v → IsSound o opened v) where
   abbrev Free : List Rec → Type 0
@@ -77,8 +78,8 @@ module _ (o : LogOrigin) (table : Locator) (opened : List Rec) (xmin : ℕ) (is_
       uncut (cut_of table rec.kind) (block_count o table opened) (count_with rec table count rec.blocks)
       (λ blocks e. none_locks later rest rec.head.xid.0 (rule.locks.cut blocks e)) (omega (arith, before, grows))
 
-  abbrev Carried : List Version → Type 0
-  Carried vs = AreCarried opened (committed_in o opened) (versions o table opened) vs
+  abbrev Carried : List Rec → List Version → Type 0
+  Carried later vs = AreCarried (later ++ opened) opened (committed_in o opened) (versions o table opened) vs
 
   knows_was :
       (later : List Rec) (horizon : ℕ) → Legal o.transactions (transactions_of (later ++ opened)) → Free later → horizon < xmin
@@ -96,26 +97,29 @@ module _ (o : LogOrigin) (table : Locator) (opened : List Rec) (xmin : ℕ) (is_
   -- one record more
   carried_more :
       (rec : Rec) (later : List Rec) → TableRule o table (later ++ opened) rec → Legal o.transactions (transactions_of (later ++ opened))
-      → is_free rec → Free later → Carried (versions o table (later ++ opened)) → Carried (versions o table (rec ∷ (later ++ opened)))
+      → MakesMultixacts (rec ∷ (later ++ opened)) → is_free rec → Free later → Carried later (versions o table (later ++ opened))
+      → Carried (rec ∷ later) (versions o table (rec ∷ (later ++ opened)))
   unfolding versions with_steps
-  carried_more rec later rule legal free rest carried =
+  carried_more rec later rule legal makes free rest carried =
       let older : List Rec = later ++ opened in
       let vs : List Version = versions o table older in
       let steps : List RowStep = steps_of rec table (block_count o table older) vs in
-      elim (steps_somewhere rec table (block_count o table older) vs rec.blocks) [
-        | inl none ↦ subst (λ (made : List RowStep). Carried (with_steps vs made)) (sym none) carried
+      carried_later stay rec older makes opened (committed_in o opened) (versions o table opened) (versions o table (rec ∷ older))
+      (elim (steps_somewhere rec table (block_count o table older) vs rec.blocks) [
+        | inl none ↦ subst (λ (made : List RowStep). Carried later (with_steps vs made)) (sym none) carried
         | inr some ↦
             carried_steps o table older opened (horizon_of rec.kind) (committed_in o opened)
             (knows_was later (horizon_of rec.kind) legal rest (horizon_below o table xmin rec is_xmin.live.normal free some))
-            (versions o table opened) steps vs rule.births rule.deleters rule.removals carried
-      ]
+            (versions o table opened) steps vs rule.births rule.deleters rule.removals rule.multixacts carried
+      ])
 
   -- the versions that stood, after further records
   pub carried_along :
-      (later : List Rec) → LegalAlong o table (later ++ opened) → Legal o.transactions (transactions_of (later ++ opened)) → Free later
-      → Carried (versions o table (later ++ opened))
-  carried_along [] legal ids free = all_carried o opened (versions o table opened) sound
-  carried_along (rec ∷ later) (rule, legal) ids free =
+      (later : List Rec) → LegalAlong o table (later ++ opened) → Legal o.transactions (transactions_of (later ++ opened))
+      → MakesMultixacts (later ++ opened) → Free later → Carried later (versions o table (later ++ opened))
+  carried_along [] legal ids makes free = all_carried o opened (versions o table opened) sound
+  carried_along (rec ∷ later) (rule, legal) ids makes free =
       let rest = All-tail is_free rec later free in
       let before = legal_rest o.transactions (transaction_of rec) (transactions_of (later ++ opened)) ids in
-      carried_more rec later rule before (All-head is_free rec later free) rest (carried_along later legal before rest)
+      carried_more rec later rule before makes (All-head is_free rec later free) rest
+      (carried_along later legal before makes.1 rest)

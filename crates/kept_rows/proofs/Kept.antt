@@ -23,6 +23,7 @@ use Rattle.row_model.specs.Shows.{Shows, ShowsPlace}
 use Rattle.row_model.specs.Shown.{IsSound, ShowsSeen, ShowsTable}
 use Rattle.row_model.specs.LegalRows.{LegalLog}
 use Rattle.row_model.specs.Prefixes.{PrefixIsLegal}
+use Rattle.row_model.specs.Stays.{AlwaysStay}
 use Rattle.row_redo.specs.Shown.{BlocksShowVersions}
 use Rattle.row_redo.proofs.Tables.{legal_rows}
 use Rattle.row_visibility.specs.Sees.{SeesOpened}
@@ -52,20 +53,23 @@ fits_then (rec ∷ later) opened fits = fits_then later opened (All-tail RecordF
 module _ (o : LogOrigin) (later opened : List Rec) (columns : List Column) (sees : List ℕ → Result Bool Unknown)
     (seen : (v : Version) (tuple : List ℕ) → Shows o (later ++ opened) v tuple → IsSound o (later ++ opened) v
     → (v.frozen ≡ true → counts (committed_in o opened) v.inserter ≡ true)
-    → sees tuple ≡ Ok (is_row (multixacts opened) (committed_in o opened) v)) where
+    → sees tuple ≡ Ok (is_row (multixacts (later ++ opened)) (committed_in o opened) v)) where
   abbrev was : ℕ → Bool
   was x = committed_in o opened x
 
   abbrev was_row : Version → Bool
   was_row v = is_row (multixacts opened) was v
 
+  abbrev is_row_now : Version → Bool
+  is_row_now v = is_row (multixacts (later ++ opened)) was v
+
   -- a line without a tuple gives nothing
   empty_read : (item : Item) → is_normal item ≡ false → ReadsNothing sees item
   empty_read item none tuple is = absurd (both_ways (is_normal item) none (ap is_normal is))
 
   -- nor does one of which a version was born since: that is no row
-  new_unseen : (v : Version) → IsNew was v → was_row v ≡ false
-  new_unseen v new = and_left (counts was v.inserter) (not (is_deleted (multixacts opened) was v.deleter)) new.uncounted
+  new_unseen : (v : Version) → IsNew was v → is_row_now v ≡ false
+  new_unseen v new = and_left (counts was v.inserter) (not (is_deleted (multixacts (later ++ opened)) was v.deleter)) new.uncounted
 
   new_frozen : (v : Version) → IsNew was v → v.frozen ≡ true → counts was v.inserter ≡ true
   new_frozen v new h = absurd (both_ways v.frozen new.thawed h)
@@ -82,15 +86,15 @@ module _ (o : LogOrigin) (later opened : List Rec) (columns : List Column) (sees
 
   -- one that stood is read exactly where it was a row
   kept_read :
-      (old v : Version) (item : Item) → IsKept opened was old v → ShowsPlace o (later ++ opened) (Some v) item
+      (old v : Version) (item : Item) → IsKept (later ++ opened) opened was old v → ShowsPlace o (later ++ opened) (Some v) item
       → IsSound o (later ++ opened) v × (23 ≤ hoff_of v.tuple) → ReadsTested columns sees (was_row old) old item
   kept_read old v item kept (tuple, is, shown) (sound, behind) =
       tested columns sees (was_row old) old item tuple is
-      (seen v tuple shown sound kept.frozen ∙ ap Ok (kept_row opened was old v kept))
+      (seen v tuple shown sound kept.frozen ∙ ap Ok (kept_row (later ++ opened) opened was old v kept))
       (row_same tuple v.tuple columns shown.row behind ∙ ap (λ (t : List ℕ). row_of t columns) kept.tuple)
 
   place_read :
-      (old place : Option Version) (item : Item) → CarriedAt opened was old place → ShowsPlace o (later ++ opened) place item
+      (old place : Option Version) (item : Item) → CarriedAt (later ++ opened) opened was old place → ShowsPlace o (later ++ opened) place item
       → ((v : Version) → place ≡ Some v → IsSound o (later ++ opened) v × (23 ≤ hoff_of v.tuple))
       → ReadsPlace columns sees was_row old item
   place_read None None item none shows known = empty_read item shows
@@ -101,7 +105,7 @@ module _ (o : LogOrigin) (later opened : List Rec) (columns : List Column) (sees
       no_row_read old item none (new_read v item new shows (known v refl).0)
 
   module _ (old vs : List Version) (first count : ℕ) (before blocks : ℕ → Seen) (grows : first ≤ count)
-      (carried : AreCarried opened was old vs) (then_shown : ShowsTable o opened old first before)
+      (carried : AreCarried (later ++ opened) opened was old vs) (then_shown : ShowsTable o opened old first before)
       (table : ShowsTable o (later ++ opened) vs count blocks) where
     seen_read :
         (block : ℕ) (page : Seen) → block < first → ShowsSeen o (later ++ opened) vs count block page
@@ -122,8 +126,8 @@ module _ (o : LogOrigin) (later opened : List Rec) (columns : List Column) (sees
           lost = then_shown.lost;
         }
 
-pub keeps_rows : PrefixIsLegal → BlocksShowVersions → SeesOpened → ScanGivesRead → KeepsRows
-keeps_rows prefix blocks_show sees_opened gives o known later opened view table locator columns xmin was now here empty none legal rises fits along_then ready since is_xmin present unlocked free done =
+pub keeps_rows : PrefixIsLegal → AlwaysStay → BlocksShowVersions → SeesOpened → ScanGivesRead → KeepsRows
+keeps_rows prefix stay blocks_show sees_opened gives o known later opened view table locator columns xmin was now here empty none legal rises fits along_then ready since is_xmin present unlocked free done =
     let log : List Rec = later ++ opened in
     let sees : List ℕ → Result Bool Unknown = sees_by (take_of was.known) now in
     let legal_before = legal_then prefix o known later opened legal in
@@ -133,13 +137,13 @@ keeps_rows prefix blocks_show sees_opened gives o known later opened view table 
     (fits_then later opened fits) legal_before.redone present in
     let shown_now =
     blocks_show o known log view table locator here empty legal rises fits done
-    (still_there o locator opened xmin is_xmin present unlocked shown_before.sound later along free) in
+    (still_there stay o locator opened xmin is_xmin present unlocked shown_before.sound later along free) in
     let reads =
     table_read o later opened columns sees (sees_opened o later opened was now none legal.transactions along_then ready since)
     (versions o locator opened) (versions o locator log) (block_count o locator opened) (block_count o locator log)
     (legal_before.view table) (view table)
-    (count_along o locator opened xmin is_xmin present unlocked shown_before.sound later along free)
-    (carried_along o locator opened xmin is_xmin present unlocked shown_before.sound later along legal.transactions free)
+    (count_along stay o locator opened xmin is_xmin present unlocked shown_before.sound later along free)
+    (carried_along stay o locator opened xmin is_xmin present unlocked shown_before.sound later along legal.transactions legal.multixacts free)
     shown_before shown_now in
     gives columns sees (multixacts opened) (committed_in o opened) (versions o locator opened) (block_count o locator opened)
     (view table) reads

@@ -11,6 +11,7 @@ pub fn kept_rows()
     ensures { KeepsRows }
 {
     row_model::prefix_is_legal();
+    row_model::deleters_stay();
     row_redo::blocks_show_versions();
     row_visibility::sees_opened();
     row_pages::scan_gives_read();

@@ -1,14 +1,12 @@
 -- The parents that a node forgets after a record are those that no snapshot may ask for.
-use Rattle.std.proofs.Common.{◌≡◌, ℕ, ◌≤◌, Bool, true, false, cond, List, [], ◌∷◌, min, arith, refl, sym, ap, ◌∙◌, if◌then◌else◌}
+use Rattle.std.proofs.Common.{◌≡◌, ℕ, ◌≤◌, Bool, true, false, List, [], ◌∷◌, min, arith, refl, if◌then◌else◌}
 use Rattle.std.proofs.Math.Nat.{min-le_left, min-le_right}
-use Rattle.std.proofs.lemmas.Bool.{le-leb}
 use Rattle.typed_records.specs.declared.types.Rec.{Rec}
-use Rattle.subtrans.specs.declared.Pair.{Pair}
-use Rattle.subtrans.specs.Parents.{from_sub}
 use Rattle.standby_snapshot.specs.Snapshot.{xmin_of}
 use Rattle.transaction_model.specs.StandbyStates.{MayForget}
 use Rattle.xact_redo.specs.State.{TransactionState, ends_ids, forgetting, standby_of, state_after}
 use Rattle.row_visibility.specs.Sees.{IsAlong, NoneBelowXmin}
+use Rattle.row_visibility.proofs.Forgetting.{none_forgotten}
 use Rattle.standby_core.specs.declared.scans.NodeScan.{NodeScan}
 use Rattle.standby_core.specs.Horizon.{least_xmin, oldest_asked, parents_kept}
 
@@ -34,17 +32,6 @@ least_below most (one ∷ ones) =
 zero_below : (ones : List NodeScan) → IsBelowScans 0 ones
 zero_below [] = tt
 zero_below (one ∷ ones) = (omega arith, zero_below ones)
-
--- from the subtransaction 0 on there are all parents
-from_zero : (pairs : List Pair) → from_sub pairs 0 ≡ pairs
-from_zero [] = refl
-from_zero (p ∷ pairs) =
-    ap (λ (t : Bool). cond t (p ∷ from_sub pairs 0) (from_sub pairs 0)) (le-leb 0 p.sub (omega arith))
-    ∙ ap (λ (rest : List Pair). p ∷ rest) (from_zero pairs)
-
-none_forgotten : (state : TransactionState) → state ≡ forgetting 0 state
-unfolding forgetting
-none_forgotten state = sym (ap (λ (pairs : List Pair). record state { parents = pairs }) (from_zero state.parents))
 
 -- a record leads from one state to another with the parents below a bound forgotten, which is above no id that is known to
 -- run and no open scan's xmin

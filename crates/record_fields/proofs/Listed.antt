@@ -2,7 +2,7 @@
 use Rattle.std.proofs.Common.{◌≡◌, ℕ, zero, suc, ◌+◌, ◌*◌, Bool, true, false, List, [], ◌∷◌, length, slice_index, ◌≤◌, refl, ap, arith}
 use Rattle.std.specs.List.{range_with_len}
 use Rattle.pg_types.specs.Numbers.{number_at}
-use Rattle.record_fields.specs.Fields.{xid_at, xids_at, lines_at, first_lines, redirects_at, locator_at, locators_at, lock_entries_at, plan_count_at, plans_at, planned_lines}
+use Rattle.record_fields.specs.Fields.{xid_at, xids_at, lines_at, first_lines, redirects_at, locator_at, locators_at, lock_entries_at, members_at, plan_count_at, plans_at, planned_lines}
 use Rattle.record_fields.specs.Stored.{lines_in}
 
 pub xids_done : (text : List ℕ) (at n : ℕ) → n ≡ 0 → xids_at text at n ≡ []
@@ -70,6 +70,16 @@ pub entries_next :
     ≡ record { xid = xid_at text at; database = number_at 4 text (at + 4); relation = number_at 4 text (at + 8) } ∷ lock_entries_at text (at + 12) m
 unfolding lock_entries_at
 entries_next text at n m e = rw e refl
+
+pub members_done : (text : List ℕ) (at n : ℕ) → n ≡ 0 → members_at text at n ≡ []
+unfolding members_at
+members_done text at n e = rw e refl
+
+pub members_next :
+    (text : List ℕ) (at n m : ℕ) → n ≡ suc m
+    → members_at text at n ≡ record { xid = xid_at text at; status = number_at 4 text (at + 4) } ∷ members_at text (at + 8) m
+unfolding members_at
+members_next text at n m e = rw e refl
 
 pub plans_done : (text : List ℕ) (at lines n : ℕ) → n ≡ 0 → plans_at text at lines n ≡ []
 unfolding plans_at

@@ -9,6 +9,7 @@ use Rattle.pg_types.specs.declared.names.Locator.{Locator}
 use Rattle.record_fields.specs.declared.entries.Redirect.{Redirect}
 use Rattle.record_fields.specs.declared.entries.FreezePlan.{FreezePlan}
 use Rattle.record_fields.specs.declared.entries.LockEntry.{LockEntry}
+use Rattle.record_fields.specs.declared.members.Member.{Member}
 
 -- a position of eight bytes (XLogRecPtr)
 abbrev pub lsn_at : List ℕ → ℕ → Lsn
@@ -58,6 +59,12 @@ lock_entries_at text at zero = []
 lock_entries_at text at (suc n) =
     record { xid = xid_at text at; database = number_at 4 text (at + 4); relation = number_at 4 text (at + 8) }
     ∷ lock_entries_at text (at + 12) n
+
+-- n members of two times four bytes (MultiXactMember, multixact.h)
+unfoldable pub members_at : List ℕ → ℕ → ℕ → List Member
+members_at text at zero = []
+members_at text at (suc n) =
+    record { xid = xid_at text at; status = number_at 4 text (at + 4) } ∷ members_at text (at + 8) n
 
 -- how many lines the plan has that stands at this place
 abbrev pub plan_count_at : List ℕ → ℕ → ℕ

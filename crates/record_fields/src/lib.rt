@@ -5,9 +5,11 @@
 mod entries;
 mod fields;
 mod lists;
+mod members;
 
 pub use entries::{
     FreezePlan, FreezePlans, Locators, LockEntries, LockEntry, Redirect, Redirects, planned_lines,
 };
 pub use fields::{i32_at, i64_at, locator_at, lsn_at, tli_at, xid_at};
 pub use lists::{Lines, RecBytes, Xids};
+pub use members::{Member, Members};

@@ -14,17 +14,17 @@ use Rattle.pg_types.specs.Bytes.{AreBytes}
 use Rattle.typed_records.specs.declared.types.NewTuple.{NewTuple}
 use Rattle.typed_records.specs.declared.types.RecBlock.{RecBlock}
 use Rattle.typed_records.specs.declared.types.RecKind.{RecKind}
-use Rattle.typed_records.specs.declared.types.RecKind.TheVariants.{Checkpoint, BackupEnd, Parameters, FullPageWrites, Images, Overwrite, Ended, Assignment, Running, Insert, Delete, Update, Confirm, Lock, MultiInsert, LockUpdated, Prune, Vacuum, Freeze, Visible, Truncate, Locks, Other}
-use Rattle.wal_bodies.specs.Fields.{◌>>=◌, xid_at, lines_at, redirects_at, plans_at, if_main, main_block, needed, needed_number}
+use Rattle.typed_records.specs.declared.types.RecKind.TheVariants.{Checkpoint, BackupEnd, Parameters, FullPageWrites, Images, Overwrite, Ended, Assignment, Running, Insert, Delete, Update, Confirm, Lock, MultiInsert, LockUpdated, Prune, Vacuum, Freeze, Visible, Truncate, Locks, Multixact, Other}
+use Rattle.wal_bodies.specs.Fields.{◌>>=◌, xid_at, lines_at, redirects_at, members_at, plans_at, if_main, main_block, needed, needed_number}
 use Rattle.record_fields.specs.Fields.{plan_count_at}
-use Rattle.wal_bodies.specs.Kinds.{assignment, backup_end, checkpoint, counted_xids, database_kind, ended, kind_of, count_from, later, locks, overwrite, page_writes, parameters, parts_by, running, standby_kind, storage_kind, time_from, xact_kind, xinfo_from, xlog_kind}
+use Rattle.wal_bodies.specs.Kinds.{assignment, backup_end, checkpoint, counted_xids, database_kind, ended, kind_of, count_from, locks, multixact, multixact_kind, overwrite, page_writes, parameters, parts_by, running, standby_kind, storage_kind, time_from, xact_kind, xinfo_from, xlog_kind}
 use Rattle.wal_bodies.specs.HeapKinds.{by_block, confirm, delete, freeze, freeze_plans, freeze_with, heap2_kind, heap_kind, in_place, insert, lock, lock_updated, multi_insert, multi_insert_of, prune, prune_lists, prune_with, update, vacuum, vacuum_lines, vacuum_with, visible}
 use Rattle.typed_records.specs.Tuples.{listed_at, listed_from, even_from, tuple_with}
 use Rattle.wal_bodies.specs.Tuples.{in_data, insert_tuples, inserted, is_applied, length_from, multi_tuples, no_tuples, replaced, tuples_of, update_tuples, updated}
 use Rattle.typed_records.specs.Blocks.{block_with, blocks_from, blocks_of, image_of, listed_block}
 use Rattle.wal_bodies.specs.Typed.{blocks_as, formed, ids_of, read_as, typed}
 use Rattle.wal_record.specs.OfBytes.{IsBlockOfBytes, IsOfBytes}
-use Rattle.record_numbers.specs.Fits.{BlockFits, ImageFits, KindFits, LineFits, PlanFits, RecordFits, RedirectFits, TupleFits}
+use Rattle.record_numbers.specs.Fits.{BlockFits, ImageFits, KindFits, LineFits, MemberFits, PlanFits, RecordFits, RedirectFits, TupleFits}
 use Rattle.record_numbers.specs.Laws.{TypedFits}
 use Rattle.record_numbers.proofs.Numbers.{four-fits, one-fits, two-fits}
 use Rattle.pg_types.proofs.Bytes.{drop-are, take-are}
@@ -83,6 +83,7 @@ is_plain (Vacuum freed) = false
 is_plain (Freeze horizon catalogue plans) = false
 is_plain (Visible horizon flags) = false
 is_plain (Truncate block locator flags) = false
+is_plain (Multixact id offset members) = false
 is_plain _ = true
 
 plain-fits : (kind : RecKind) → is_plain kind ≡ true → KindFits kind
@@ -108,6 +109,7 @@ plain-fits (Freeze horizon catalogue plans) e = absurd (false≢true e)
 plain-fits (Visible horizon flags) e = absurd (false≢true e)
 plain-fits (Truncate block locator flags) e = absurd (false≢true e)
 plain-fits (Locks entries) e = tt
+plain-fits (Multixact id offset members) e = absurd (false≢true e)
 plain-fits Other e = tt
 
 plain : {E : Type 0} (kind : RecKind) → is_plain kind ≡ true → Has {E = E} KindFits (Ok kind)
@@ -192,8 +194,24 @@ storage-fits : (info : ℕ) (main : List ℕ) → AreBytes main → Has KindFits
 unfolding storage_kind
 storage-fits info main all = search (either, refused, plain, truncated)
 
-later-fits : (wanted info : ℕ) → Has KindFits (later wanted info)
-later-fits wanted info = search (either, refused, plain)
+members-fit : (bytes : List ℕ) (at n : ℕ) → AreBytes bytes → All MemberFits (members_at bytes at n)
+unfolding members_at
+members-fit bytes at zero all = All-nil MemberFits
+members-fit bytes at (suc n) all =
+    All-cons MemberFits (record { xid = xid_at bytes at; status = number_at 4 bytes (at + 4) }) (members_at bytes (at + 8) n)
+    (record { xid = four-fits bytes at all; status = four-fits bytes (at + 4) all }) (members-fit bytes (at + 8) n all)
+
+made : {E : Type 0} (main : List ℕ) (count : ℕ) → AreBytes main
+    → Has {E = E} KindFits (Ok (Multixact (number_at 4 main 0) (number_at 4 main 4) (members_at main 12 count)))
+made main count all = record { has = (four-fits main 0 all, (four-fits main 4 all, members-fit main 12 count all)) }
+
+multixact-fits : (main : List ℕ) → AreBytes main → Has KindFits (multixact main)
+unfolding multixact
+multixact-fits main all = search (either, refused, made)
+
+multixact_kind-fits : (info : ℕ) (main : List ℕ) → AreBytes main → Has KindFits (multixact_kind info main)
+unfolding multixact_kind
+multixact_kind-fits info main all = search (either, plain, multixact-fits)
 
 insert-fits : (main : List ℕ) → Has KindFits (insert main)
 unfolding insert
@@ -367,7 +385,7 @@ heap2-fits source is = heap2-parts source is is.main
 kind-parts : (source : Record) (database : ℕ) (known : List Locator) → IsOfBytes source → AreBytes source.main → Has KindFits (kind_of source database known)
 unfolding kind_of
 kind-parts source database known is all =
-    search (either, plain, xlog-fits, xact-fits, storage-fits, later-fits, database-fits, standby-fits, heap2-fits, heap-fits) depth 16
+    search (either, plain, xlog-fits, xact-fits, storage-fits, multixact_kind-fits, database-fits, standby-fits, heap2-fits, heap-fits) depth 16
 
 kind-fits : (source : Record) (database : ℕ) (known : List Locator) → IsOfBytes source → Has KindFits (kind_of source database known)
 kind-fits source database known is = kind-parts source database known is is.main
@@ -497,6 +515,7 @@ tuples-fit (Freeze horizon catalogue plans) source is = no_tuples-fit source is
 tuples-fit (Visible horizon flags) source is = no-tuple
 tuples-fit (Truncate block locator flags) source is = no-tuple
 tuples-fit (Locks entries) source is = no-tuple
+tuples-fit (Multixact id offset members) source is = no-tuple
 tuples-fit Other source is = no-tuple
 
 -- the blocks
@@ -552,6 +571,7 @@ blocks_as-fit (Freeze horizon catalogue plans) tuples source fit is = blocks-fit
 blocks_as-fit (Visible horizon flags) tuples source fit is = blocks_from-fit source 1 1 is
 blocks_as-fit (Truncate block locator flags) tuples source fit is = blocks-fit (ids_of (Truncate block locator flags)) tuples source fit is
 blocks_as-fit (Locks entries) tuples source fit is = blocks-fit (ids_of (Locks entries)) tuples source fit is
+blocks_as-fit (Multixact id offset members) tuples source fit is = blocks-fit (ids_of (Multixact id offset members)) tuples source fit is
 blocks_as-fit Other tuples source fit is = blocks-fit (ids_of Other) tuples source fit is
 
 -- where the kind names no block
@@ -579,6 +599,7 @@ none_named (Freeze horizon catalogue plans) tuples source e = absurd (suc-ne-zer
 none_named (Visible horizon flags) tuples source e = absurd (suc-ne-zero 1 e)
 none_named (Truncate block locator flags) tuples source e = refl
 none_named (Locks entries) tuples source e = refl
+none_named (Multixact id offset members) tuples source e = refl
 none_named Other tuples source e = refl
 
 -- the whole record

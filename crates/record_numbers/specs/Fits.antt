@@ -2,17 +2,18 @@
 -- bytes.
 -- Sources: xlogrecord.h (XLogRecord, XLogRecordBlockHeader), heapam_xlog.h (xl_heap_header, xl_heap_delete,
 -- xl_heap_update, xl_heap_lock, xl_heap_lock_updated, xl_heap_prune, xl_heap_vacuum, xl_heap_freeze_page,
--- xl_heap_freeze_plan, xl_heap_visible), storage_xlog.h (xl_smgr_truncate).
+-- xl_heap_freeze_plan, xl_heap_visible), storage_xlog.h (xl_smgr_truncate), multixact.h (xl_multixact_create).
 use Rattle.std.specs.Prelude.{◌≡◌, ℕ, ◌<◌, ◌^◌, List, [], All, Option, Some, None}
 use Rattle.pg_types.specs.declared.names.Xid.{Xid}
 use Rattle.record_fields.specs.declared.entries.Redirect.{Redirect}
 use Rattle.record_fields.specs.declared.entries.FreezePlan.{FreezePlan}
+use Rattle.record_fields.specs.declared.members.Member.{Member}
 use Rattle.typed_records.specs.declared.types.RecImage.{RecImage}
 use Rattle.typed_records.specs.declared.types.NewTuple.{NewTuple}
 use Rattle.typed_records.specs.declared.types.RecBlock.{RecBlock}
 use Rattle.typed_records.specs.declared.types.Rec.{Rec}
 use Rattle.typed_records.specs.declared.types.RecKind.{RecKind}
-use Rattle.typed_records.specs.declared.types.RecKind.TheVariants.{Delete, Update, Lock, LockUpdated, Prune, Vacuum, Freeze, Visible, Truncate}
+use Rattle.typed_records.specs.declared.types.RecKind.TheVariants.{Delete, Update, Lock, LockUpdated, Prune, Vacuum, Freeze, Visible, Truncate, Multixact}
 use Rattle.wal_bodies.specs.Typed.{ids_of}
 use Rattle.pg_types.specs.Bytes.{AreBytes}
 
@@ -57,7 +58,13 @@ pub record PruneFits (horizon : Xid) (redirected : List Redirect) (died freed : 
   pub dead : All LineFits died
   pub unused : All LineFits freed
 
--- an xmax or a horizon of four bytes (TransactionId), an xmax's bits in one, and a number of blocks in four
+-- an xid and a status of four bytes each (MultiXactMember)
+pub record MemberFits (member : Member) : Type 0 where
+  pub xid : member.xid.0 < 2 ^ 32
+  pub status : member.status < 2 ^ 32
+
+-- an xmax or a horizon of four bytes (TransactionId), an xmax's bits in one, a number of blocks in four, and a
+-- multixact's id and offset in four each
 abbrev pub KindFits : RecKind → Type 0
 KindFits (Delete xmax line bits flags) = (xmax.0 < 2 ^ 32) × (bits < 2 ^ 8)
 KindFits (Update old_xmax old_line old_bits flags new_xmax new_line) = (old_xmax.0 < 2 ^ 32) × ((old_bits < 2 ^ 8) × (new_xmax.0 < 2 ^ 32))
@@ -68,6 +75,7 @@ KindFits (Vacuum freed) = All LineFits freed
 KindFits (Freeze horizon catalogue plans) = (horizon.0 < 2 ^ 32) × All PlanFits plans
 KindFits (Visible horizon flags) = horizon.0 < 2 ^ 32
 KindFits (Truncate block locator flags) = block < 2 ^ 32
+KindFits (Multixact id offset members) = (id < 2 ^ 32) × ((offset < 2 ^ 32) × All MemberFits members)
 KindFits _ = Unit {0}
 
 -- and a record whose kind names no block has none

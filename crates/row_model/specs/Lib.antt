@@ -9,5 +9,6 @@ pub mod RowSteps
 pub mod Rows
 pub mod Shown
 pub mod Shows
+pub mod Stays
 pub mod Versions
 pub mod WorkedRows

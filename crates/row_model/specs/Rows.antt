@@ -4,7 +4,8 @@ use Rattle.std.specs.Prelude.{◌≡◌, ℕ, ◌<◌, Bool, true, false, not, �
 use Rattle.std.specs.List.Sorted.{IsPermutation}
 use Rattle.heap_tuple.specs.declared.tuple_view.MaxOf.{MaxOf}
 use Rattle.row_model.specs.Versions.{Version, Inserter, Nobody, Always, By}
-use Rattle.row_model.specs.Multixacts.{Made, deleting}
+use Rattle.multixact.specs.Made.{Made}
+use Rattle.row_model.specs.Multixacts.{deleting}
 
 -- the inserter counts, for a test of what committed
 abbrev pub counts : (ℕ → Bool) → Inserter → Bool

@@ -4,6 +4,7 @@
 
 ghost use Rattle.row_model.specs.Prefixes.{PrefixIsLegal};
 ghost use Rattle.row_model.specs.Rows.{OneRows};
+ghost use Rattle.row_model.specs.Stays.{AlwaysStay};
 ghost use Rattle.row_model.specs.WorkedRows.{IsWorkedRows};
 
 /// One list of rows is that of some versions.
@@ -14,6 +15,11 @@ pub fn one_rows()
 /// A legal log without its last record is legal.
 pub fn prefix_is_legal()
     ensures { PrefixIsLegal }
+{}
+
+/// What a deleter of a legal log stands for does not change.
+pub fn deleters_stay()
+    ensures { AlwaysStay }
 {}
 
 /// The log that is worked by hand keeps to the rules, and its rows are as worked: so the rules can be met, with a row

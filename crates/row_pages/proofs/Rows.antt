@@ -9,7 +9,7 @@ use Rattle.heap_page.specs.Item.{Item, unused}
 use Rattle.page_store.specs.Seen.{Seen, absent, bad_block, seen_page}
 use Rattle.row_model.specs.Versions.{Version, is_at, version_at}
 use Rattle.row_model.specs.Rows.{IsRows, is_row}
-use Rattle.row_model.specs.Multixacts.{Made}
+use Rattle.multixact.specs.Made.{Made}
 use Rattle.row_pages.specs.Pages.{AreScanned, ReadsPlace, ReadsSeen, ReadsTable, ReadsTested, ScanGivesRead, rows_of_versions}
 use Rattle.row_pages.proofs.Each.{Each, Stands, each-weaker}
 use Rattle.row_pages.proofs.Places.{kept, first_of_two, at_head, at_none, version_at-append, version_at-filter, none_where, found_at, found_holds, from_place, off_block, off_line, apart-filter}

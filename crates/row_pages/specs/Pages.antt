@@ -9,7 +9,8 @@ use Rattle.page_store.specs.Seen.{Seen, absent, bad_block, seen_page}
 use Rattle.seq_scan.specs.BlockRows.{BlockRows, Whole, block_rows, ends, with_values}
 use Rattle.row_model.specs.Versions.{Version, version_at}
 use Rattle.row_model.specs.Origins.{LogOrigin, committed_in}
-use Rattle.row_model.specs.Multixacts.{Made, multixacts}
+use Rattle.multixact.specs.Made.{Made}
+use Rattle.row_model.specs.Multixacts.{multixacts}
 use Rattle.row_model.specs.Rows.{IsRows, is_row}
 use Rattle.row_model.specs.Shows.{Shows}
 use Rattle.row_model.specs.Shown.{HasNone, IsSound, ShowsTable, AreApart}

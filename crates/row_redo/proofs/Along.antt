@@ -16,7 +16,8 @@ use Rattle.row_model.specs.Versions.{RowStep, Version, with_steps, version_at}
 use Rattle.row_model.specs.Origins.{BeginsEmpty, LogOrigin, TableOrigin}
 use Rattle.row_model.specs.RowSteps.{block_count, blocks_of, count_with, cut_of, cut_to, steps_in, steps_of, versions, view_after, view_before, view_with_record}
 use Rattle.record_numbers.specs.Fits.{RecordFits}
-use Rattle.row_model.specs.LegalRows.{LegalAlong, TableRule, are_apart}
+use Rattle.row_model.specs.Multixacts.{made_by}
+use Rattle.row_model.specs.LegalRows.{LegalAlong, MakesMultixact, MakesMultixacts, TableRule, are_apart}
 use Rattle.row_model.specs.LegalSteps.{horizon_of}
 use Rattle.row_model.specs.Locks.{drops, is_gone}
 use Rattle.wal_bodies.specs.Ends.{Rises, end_of}
@@ -149,51 +150,53 @@ module _ (keep : TuplesKeepRule) (no_items : ZerosHaveNone) (from : LogOrigin) (
 
   -- one record more
   one_more :
-      (rec : Rec) (older : List Rec) (was view : View) → Legal from.transactions (transactions_of (rec ∷ older)) → RecordFits rec
-      → are_apart rec.blocks ≡ true → TableRule from locator older rec → drops locator rec ≡ false
+      (rec : Rec) (older : List Rec) (was view : View) → Legal from.transactions (transactions_of (rec ∷ older))
+      → MakesMultixact older (made_by rec.kind) → RecordFits rec → are_apart rec.blocks ≡ true → TableRule from locator older rec
+      → drops locator rec ≡ false
       → Standing from older (versions from locator older) (block_count from locator older) (end_of 0 older) (was table)
       → redone_record rec known was ≡ (view, Ok tt) → end_of 0 older < rec.end.0
       → Standing from (rec ∷ older) (versions from locator (rec ∷ older)) (block_count from locator (rec ∷ older)) rec.end.0 (view table)
   unfolding versions block_count
-  one_more rec older was view legal fits apart rule kept standing done less =
+  one_more rec older was view legal makes fits apart rule kept standing done less =
       let count : ℕ = block_count from locator older in
       let vs : List Version = versions from locator older in
       let steps : List RowStep = steps_of rec locator count vs in
       let last : List Version = with_steps vs steps in
       let rules : StepsRule from older vs steps =
       rules_of from locator older (horizon_of rec.kind) vs steps rule.births rule.deleters rule.removals rule.multixacts in
+      let sound = steps_sound from older steps vs rules standing.sound in
       record {
         holds = λ b.
-            holds_later from rec older legal last (cut_to (cut_of locator rec.kind) (count_with rec locator count rec.blocks)) rec.end.0 b (view table b)
+            holds_later from rec older legal makes last sound (cut_to (cut_of locator rec.kind) (count_with rec locator count rec.blocks)) rec.end.0 b (view table b)
             (after_record rec older was view fits apart rule kept standing done less b);
         apart = steps_apart from older steps vs rules standing.apart;
-        sound = all_sound_later from rec older legal last (steps_sound from older steps vs rules standing.sound);
-        lost = all_lost_later from rec older legal last (steps_lost from older steps vs rules standing.apart standing.lost);
+        sound = all_sound_later from rec older legal makes last sound;
+        lost = all_lost_later from rec older legal makes last (steps_lost from older steps vs rules standing.apart standing.lost);
       }
 
   -- all records
   along :
-      (log : List Rec) (view : View) → Legal from.transactions (transactions_of log) → All (λ (r : Rec). are_apart r.blocks ≡ true) log
-      → All RecordFits log → Rises 0 log → LegalAlong from locator log → view_after from known log ≡ Ok view
-      → is_gone locator log ≡ false
+      (log : List Rec) (view : View) → Legal from.transactions (transactions_of log) → MakesMultixacts log
+      → All (λ (r : Rec). are_apart r.blocks ≡ true) log → All RecordFits log → Rises 0 log → LegalAlong from locator log
+      → view_after from known log ≡ Ok view → is_gone locator log ≡ false
       → Standing from log (versions from locator log) (block_count from locator log) (end_of 0 log) (view table)
   unfolding Legal versions block_count view_after
-  along [] view legal apart fits rises rules done kept =
+  along [] view legal makes apart fits rises rules done kept =
       let same : view_before from known ≡ view = cc in
       no_blocks from [] (from.tables locator).versions (from.tables locator).count 0 (view table)
       (ap (λ (t : TableOrigin). t.versions) (empty.tables locator))
       (ap (λ (t : TableOrigin). t.count) (empty.tables locator))
       (λ block. sym (ap (λ (v : View). v table block) same) ∙ absent_before from empty (slice_get known table) block)
-  along (rec ∷ older) view (rule, legal) apart fits (less, rises) (table_rule, rules) done kept =
+  along (rec ∷ older) view (rule, legal) (makes, made) apart fits (less, rises) (table_rule, rules) done kept =
       let (first_kept, rest_kept) = or_parts (drops locator rec) (is_gone locator older) kept in
       let (was, before, redo) = record_done rec known (view_after from known older) view done in
-      one_more rec older was view (rule, legal) (All-head RecordFits rec older fits)
+      one_more rec older was view (rule, legal) makes (All-head RecordFits rec older fits)
       (All-head (λ (r : Rec). are_apart r.blocks ≡ true) rec older apart) table_rule first_kept
-      (along older was legal (All-tail (λ (r : Rec). are_apart r.blocks ≡ true) rec older apart) (All-tail RecordFits rec older fits) rises rules before rest_kept)
+      (along older was legal made (All-tail (λ (r : Rec). are_apart r.blocks ≡ true) rec older apart) (All-tail RecordFits rec older fits) rises rules before rest_kept)
       redo less
 
 pub blocks_show : TuplesKeepRule → ZerosHaveNone → BlocksShowVersions
 blocks_show keep no_items from known log view table locator here empty legal rises fits done kept =
     standing_shows from log (versions from locator log) (block_count from locator log) (end_of 0 log) (view table)
-    (along keep no_items from empty known locator table here log view legal.transactions legal.apart fits rises
+    (along keep no_items from empty known locator table here log view legal.transactions legal.multixacts legal.apart fits rises
     (legal_rows known locator table here from log legal.rows).along done kept)

@@ -9,7 +9,8 @@ use Rattle.transaction_model.specs.LegalTransactions.{Legal}
 use Rattle.xact_redo.specs.TransactionsOf.{transactions_of}
 use Rattle.row_model.specs.Versions.{Version, Always, By, FreezePlan, RowStep, Born, Deleter, Undone, Removed, Frozen, deleter_of_plan, frozen_by, inserter_in, is_frozen, removed, taken_back, version_born, is_at, version_at, changed_at, with_deleter, with_step, with_steps}
 use Rattle.row_model.specs.Origins.{LogOrigin, committed_in}
-use Rattle.row_model.specs.Multixacts.{WasMade}
+use Rattle.row_model.specs.Multixacts.{WasMade, made_by}
+use Rattle.row_model.specs.LegalRows.{MakesMultixact}
 use Rattle.row_model.specs.Rows.{counts}
 use Rattle.row_model.specs.Shown.{IsLost, IsSound, count_at, AreApart}
 use Rattle.row_model.specs.LegalSteps.{IfVersion, MayBeRemoved, MayUndo, NeverCommitted, OwnDeleted, PlanRule, WasDeleted, WasUndone}
@@ -311,13 +312,14 @@ steps_lost from log (step ∷ steps) vs (rule, rules) apart lost =
     (lost_step from log vs step rule apart lost)
 
 -- with a record more
-module _ (from : LogOrigin) (rec : Rec) (older : List Rec) (legal : Legal from.transactions (transactions_of (rec ∷ older))) where
+module _ (from : LogOrigin) (rec : Rec) (older : List Rec) (legal : Legal from.transactions (transactions_of (rec ∷ older)))
+    (makes : MakesMultixact older (made_by rec.kind)) where
   pub all_sound_later : (vs : List Version) → AreSound from older vs → AreSound from (rec ∷ older) vs
-  all_sound_later vs sound block line v e = sound_later from rec older legal v (sound block line v e)
+  all_sound_later vs sound block line v e = sound_later from rec older legal makes v (sound block line v e)
 
   pub all_lost_later : (vs : List Version) → AreLost from older vs → AreLost from (rec ∷ older) vs
   all_lost_later [] lost = tt
-  all_lost_later (v ∷ vs) (first, rest) = (λ h. lost_later from rec older legal v (first h), all_lost_later vs rest)
+  all_lost_later (v ∷ vs) (first, rest) = (λ h. lost_later from rec older legal makes v (first h), all_lost_later vs rest)
 
 -- no row is among them
 pub none_lost : (from : LogOrigin) (log : List Rec) (vs : List Version) → AreLost from log vs → All (IsLost from log) vs

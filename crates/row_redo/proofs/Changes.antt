@@ -12,7 +12,7 @@ use Rattle.typed_records.specs.declared.types.NewTuple.{NewTuple}
 use Rattle.typed_records.specs.declared.types.RecBlock.{RecBlock}
 use Rattle.typed_records.specs.declared.types.Rec.{Rec}
 use Rattle.typed_records.specs.declared.types.RecKind.{RecKind}
-use Rattle.typed_records.specs.declared.types.RecKind.TheVariants.{Checkpoint, BackupEnd, Parameters, FullPageWrites, Images, Overwrite, Ended, Assignment, Running, Insert, Delete, Update, Confirm, Lock, MultiInsert, LockUpdated, Prune, Vacuum, Freeze, Visible, Truncate, Locks, Other}
+use Rattle.typed_records.specs.declared.types.RecKind.TheVariants.{Checkpoint, BackupEnd, Parameters, FullPageWrites, Images, Overwrite, Ended, Assignment, Running, Insert, Delete, Update, Confirm, Lock, MultiInsert, LockUpdated, Prune, Vacuum, Freeze, Visible, Truncate, Locks, Multixact, Other}
 use Rattle.pg_types.specs.Numbers.{has_bits}
 use Rattle.heap_redo.specs.TupleHeads.{Head, marked, deleted, replaced, locked, frozen}
 use Rattle.heap_redo.specs.After.{BlockRefusal, no_tuple, ◌>>=◌, applied, put, put_listed, put_version, change_head, tuple_of, joined, user_data, is_short, update_old, update_within, update, number_of, changed, new_head, set_line, set_lines, redirect_line, redirect_lines, prune, freeze_lines, freeze}
@@ -378,6 +378,7 @@ module _ (from : LogOrigin) (log : List Rec) (vs : List Version) (rec : Rec) (bl
   kind-shown (Visible horizon flags) f rule e = subst (Shown from log vs block.block) (cc) shown
   kind-shown (Truncate number locator flags) f rule e = subst (Shown from log vs block.block) (cc) shown
   kind-shown (Locks entries) f rule e = subst (Shown from log vs block.block) (cc) shown
+  kind-shown (Multixact id offset members) f rule e = subst (Shown from log vs block.block) (cc) shown
   kind-shown Other f rule e = subst (Shown from log vs block.block) (cc) shown
 
 -- After a change that is not refused a block shows the versions after the record's steps in it.

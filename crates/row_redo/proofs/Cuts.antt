@@ -7,7 +7,7 @@ use Rattle.std.proofs.lemmas.List.Elements.{All-head, All-tail}
 use Rattle.pg_types.specs.declared.names.Locator.{Locator}
 use Rattle.typed_records.specs.declared.types.Rec.{Rec}
 use Rattle.typed_records.specs.declared.types.RecKind.{RecKind}
-use Rattle.typed_records.specs.declared.types.RecKind.TheVariants.{Checkpoint, BackupEnd, Parameters, FullPageWrites, Images, Overwrite, Ended, Assignment, Running, Insert, Delete, Update, Confirm, Lock, MultiInsert, LockUpdated, Prune, Vacuum, Freeze, Visible, Truncate, Locks, Other}
+use Rattle.typed_records.specs.declared.types.RecKind.TheVariants.{Checkpoint, BackupEnd, Parameters, FullPageWrites, Images, Overwrite, Ended, Assignment, Running, Insert, Delete, Update, Confirm, Lock, MultiInsert, LockUpdated, Prune, Vacuum, Freeze, Visible, Truncate, Locks, Multixact, Other}
 use Rattle.pg_types.specs.Locators.{same_locator}
 use Rattle.wal_bodies.specs.Typed.{ids_of, is_commit}
 use Rattle.page_store.specs.Seen.{Seen, absent, bad_block, seen_page, View}
@@ -170,4 +170,5 @@ module _ (known : List Locator) (locator : Locator) (table : ℕ) (here : table_
   by_cut from log rec view (Freeze horizon catalogue plans) kept = inl (uncut rec view _ refl (λ n. refl))
   by_cut from log rec view (Visible horizon flags) kept = inl (uncut rec view _ refl (λ n. refl))
   by_cut from log rec view (Locks entries) kept = inl (uncut rec view _ refl (λ n. refl))
+  by_cut from log rec view (Multixact id offset members) kept = inl (uncut rec view _ refl (λ n. refl))
   by_cut from log rec view Other kept = inl (uncut rec view _ refl (λ n. refl))

@@ -2,6 +2,7 @@
 use Rattle.std.proofs.Common.{◌≡◌, ℕ, true, false, not, List, ◌∷◌, Option, Some, None, refl, sym, ap, ◌∙◌}
 use Rattle.std.proofs.lemmas.Bool.{and_left, and_right, or_right, or_from, both_ways, false_from_ne_true, false≢true}
 use Rattle.typed_records.specs.declared.types.Rec.{Rec}
+use Rattle.pg_types.specs.declared.names.Xid.{Xid}
 use Rattle.heap_tuple.specs.declared.tuple_view.MaxOf.{MaxOf}
 use Rattle.heap_tuple.specs.declared.tuple_view.MaxOf.TheVariants.{None as NoDeleter, Xid as DeletedBy, Multi}
 use Rattle.heap_page.specs.Item.{Item, numbered}
@@ -11,10 +12,12 @@ use Rattle.transaction_model.proofs.Endings.{live_not_committed}
 use Rattle.xact_redo.specs.TransactionsOf.{transaction_of, transactions_of}
 use Rattle.row_model.specs.Versions.{Version, Inserter, Nobody, Always, By, version_at}
 use Rattle.row_model.specs.Origins.{LogOrigin, HasFailed, IsLive, committed_in}
-use Rattle.row_model.specs.Multixacts.{WasMade, deleter_in, multixacts}
+use Rattle.row_model.specs.Multixacts.{WasMade, deleter_in, made_by, multixacts, updater_of}
+use Rattle.row_model.specs.LegalRows.{MakesMultixact}
 use Rattle.row_model.specs.Rows.{counts, has_committed, is_row}
 use Rattle.row_model.specs.Shows.{AreMarksTrue, Shows, ShowsPlace, ShowsBlock}
 use Rattle.row_model.specs.Shown.{IsSound}
+use Rattle.row_model.proofs.Stays.{deleter_stays, made_stays}
 
 -- only a live id commits
 commits_live :
@@ -64,7 +67,18 @@ lost_no_row from log v (WasDeletedBy x by done) =
     and_right (counts (committed_in from log) v.inserter) (not (has_committed (committed_in from log) (deleter_in log v.deleter)))
     (ap (λ (d : Option ℕ). not (has_committed (committed_in from log) d)) by ∙ ap not done)
 
-module _ (from : LogOrigin) (rec : Rec) (older : List Rec) (legal : Legal from.transactions (transactions_of (rec ∷ older))) where
+-- a deleter that stands for a transaction was made
+made_if_stands : (found : Option (Option Xid)) (x : ℕ) → updater_of found ≡ Some x → (updater : Option Xid) × (found ≡ Some updater)
+made_if_stands None x e = cc
+made_if_stands (Some updater) x e = (updater, refl)
+
+stands_made : (log : List Rec) (d : MaxOf) (x : ℕ) → deleter_in log d ≡ Some x → WasMade log d
+stands_made log NoDeleter x e = tt
+stands_made log (DeletedBy y) x e = tt
+stands_made log (Multi id) x e = made_if_stands (multixacts log id) x e
+
+module _ (from : LogOrigin) (rec : Rec) (older : List Rec) (legal : Legal from.transactions (transactions_of (rec ∷ older)))
+    (makes : MakesMultixact older (made_by rec.kind)) where
   committed_later : (x : ℕ) → committed_in from older x ≡ true → committed_in from (rec ∷ older) x ≡ true
   committed_later x h = committed_still from.transactions (transaction_of rec) (transactions_of older) legal x h
 
@@ -77,58 +91,57 @@ module _ (from : LogOrigin) (rec : Rec) (older : List Rec) (legal : Legal from.t
             failed.not_committed;
       }
 
-  -- a deleter stands for the same transaction
-  deleter_same : (d : MaxOf) → deleter_in (rec ∷ older) d ≡ deleter_in older d
-  deleter_same NoDeleter = refl
-  deleter_same (DeletedBy x) = refl
-  deleter_same (Multi id) = refl
-
-  pub marks_later : (v : Version) (tuple : List ℕ) → AreMarksTrue from older v tuple → AreMarksTrue from (rec ∷ older) v tuple
-  marks_later v tuple marks =
+  -- the deleter was made, so it stands for the same transaction
+  pub marks_later :
+      (v : Version) (tuple : List ℕ) → WasMade older v.deleter → AreMarksTrue from older v tuple
+      → AreMarksTrue from (rec ∷ older) v tuple
+  marks_later v tuple made marks =
+      let same = deleter_stays rec older makes v.deleter made in
       record {
         inserter_committed = λ x e h. committed_later x (marks.inserter_committed x e h);
         inserter_failed = λ x e h. failed_later x (marks.inserter_failed x e h);
-        deleter_committed = λ x e h. committed_later x (marks.deleter_committed x (sym (deleter_same v.deleter) ∙ e) h);
-        deleter_failed = λ x e h. failed_later x (marks.deleter_failed x (sym (deleter_same v.deleter) ∙ e) h);
+        deleter_committed = λ x e h. committed_later x (marks.deleter_committed x (sym same ∙ e) h);
+        deleter_failed = λ x e h. failed_later x (marks.deleter_failed x (sym same ∙ e) h);
       }
 
-  pub shows_later : (v : Version) (tuple : List ℕ) → Shows from older v tuple → Shows from (rec ∷ older) v tuple
-  shows_later v tuple shows =
+  pub shows_later :
+      (v : Version) (tuple : List ℕ) → WasMade older v.deleter → Shows from older v tuple → Shows from (rec ∷ older) v tuple
+  shows_later v tuple made shows =
       record {
         row = shows.row;
         inserter = shows.inserter;
         frozen = shows.frozen;
         deleter = shows.deleter;
-        marks = marks_later v tuple shows.marks;
+        marks = marks_later v tuple made shows.marks;
       }
 
-  place_later : (place : Option Version) (item : Item) → ShowsPlace from older place item → ShowsPlace from (rec ∷ older) place item
-  place_later None item shows = shows
-  place_later (Some v) item (tuple, is, shows) = (tuple, is, shows_later v tuple shows)
+  place_later :
+      (place : Option Version) (item : Item) → ((v : Version) → place ≡ Some v → IsSound from older v)
+      → ShowsPlace from older place item → ShowsPlace from (rec ∷ older) place item
+  place_later None item sound shows = shows
+  place_later (Some v) item sound (tuple, is, shows) = (tuple, is, shows_later v tuple (sound v refl).made shows)
 
   pub block_later :
-      (vs : List Version) (block : ℕ) (items : List Item) → ShowsBlock from older vs block items
-      → ShowsBlock from (rec ∷ older) vs block items
-  block_later vs block items shows line = place_later (version_at block line vs) (numbered items line) (shows line)
+      (vs : List Version) (block : ℕ) (items : List Item)
+      → ((line : ℕ) (v : Version) → version_at block line vs ≡ Some v → IsSound from older v)
+      → ShowsBlock from older vs block items → ShowsBlock from (rec ∷ older) vs block items
+  block_later vs block items sound shows line =
+      place_later (version_at block line vs) (numbered items line) (sound line) (shows line)
 
   counts_later : (i : Inserter) → counts (committed_in from older) i ≡ true → counts (committed_in from (rec ∷ older)) i ≡ true
   counts_later Nobody h = h
   counts_later Always h = h
   counts_later (By x) h = committed_later x h
 
-  made_later : (d : MaxOf) → WasMade older d → WasMade (rec ∷ older) d
-  made_later NoDeleter made = tt
-  made_later (DeletedBy x) made = tt
-  made_later (Multi id) made = made
-
   pub sound_later : (v : Version) → IsSound from older v → IsSound from (rec ∷ older) v
   sound_later v sound =
-      record { made = made_later v.deleter sound.made; frozen = λ h. counts_later v.inserter (sound.frozen h) }
+      record { made = made_stays rec older makes v.deleter sound.made; frozen = λ h. counts_later v.inserter (sound.frozen h) }
 
   pub lost_later : (v : Version) → WhyLost from older v → WhyLost from (rec ∷ older) v
   lost_later v (TakenBack by) = TakenBack by
   lost_later v (FailedBy x by failed) = FailedBy x by (failed_later x failed)
-  lost_later v (WasDeletedBy x by done) = WasDeletedBy x (deleter_same v.deleter ∙ by) (committed_later x done)
+  lost_later v (WasDeletedBy x by done) =
+      WasDeletedBy x (deleter_stays rec older makes v.deleter (stands_made older v.deleter x by) ∙ by) (committed_later x done)
 
 -- a live transaction has not committed
 pub live_uncommitted : (from : LogOrigin) (log : List Rec) (x : ℕ) → IsLive from log x → committed_in from log x ≡ false

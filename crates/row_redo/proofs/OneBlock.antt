@@ -8,7 +8,7 @@ use Rattle.typed_records.specs.declared.types.RecImage.{RecImage}
 use Rattle.typed_records.specs.declared.types.RecBlock.{RecBlock}
 use Rattle.typed_records.specs.declared.types.Rec.{Rec}
 use Rattle.typed_records.specs.declared.types.RecKind.{RecKind}
-use Rattle.typed_records.specs.declared.types.RecKind.TheVariants.{Checkpoint, BackupEnd, Parameters, FullPageWrites, Images, Overwrite, Ended, Assignment, Running, Insert, Delete, Update, Confirm, Lock, MultiInsert, LockUpdated, Prune, Vacuum, Freeze, Visible, Truncate, Locks, Other}
+use Rattle.typed_records.specs.declared.types.RecKind.TheVariants.{Checkpoint, BackupEnd, Parameters, FullPageWrites, Images, Overwrite, Ended, Assignment, Running, Insert, Delete, Update, Confirm, Lock, MultiInsert, LockUpdated, Prune, Vacuum, Freeze, Visible, Truncate, Locks, Multixact, Other}
 use Rattle.heap_redo.specs.After.{BlockRefusal, no_page, bad_page, Content, page, page_of_image, after_restore, applied, is_images, made_anew, paged, changed, changed_page, after_change, after_image, after}
 use Rattle.page_store.specs.Seen.{Seen, absent, bad_block, seen_page}
 use Rattle.heap_redo.specs.Redone.{content_of, stamped, is_anew, is_left, has_reached, left_by, redone_block}
@@ -58,6 +58,7 @@ own_none rec block (Freeze horizon catalogue plans) vs h = absurd (false≢true 
 own_none rec block (Visible horizon flags) vs h = refl
 own_none rec block (Truncate number locator flags) vs h = absurd (false≢true h)
 own_none rec block (Locks entries) vs h = absurd (false≢true h)
+own_none rec block (Multixact id offset members) vs h = absurd (false≢true h)
 own_none rec block Other vs h = absurd (false≢true h)
 
 -- no image is restored: the steps are the record's own

@@ -5,7 +5,7 @@ use Rattle.typed_records.specs.declared.types.NewTuple.{NewTuple}
 use Rattle.typed_records.specs.declared.types.RecBlock.{RecBlock}
 use Rattle.typed_records.specs.declared.types.Rec.{Rec}
 use Rattle.typed_records.specs.declared.types.RecKind.{RecKind}
-use Rattle.typed_records.specs.declared.types.RecKind.TheVariants.{Checkpoint, BackupEnd, Parameters, FullPageWrites, Images, Overwrite, Ended, Assignment, Running, Insert, Delete, Update, Confirm, Lock, MultiInsert, LockUpdated, Prune, Vacuum, Freeze, Visible, Truncate, Locks, Other}
+use Rattle.typed_records.specs.declared.types.RecKind.TheVariants.{Checkpoint, BackupEnd, Parameters, FullPageWrites, Images, Overwrite, Ended, Assignment, Running, Insert, Delete, Update, Confirm, Lock, MultiInsert, LockUpdated, Prune, Vacuum, Freeze, Visible, Truncate, Locks, Multixact, Other}
 use Rattle.pg_types.specs.Numbers.{has_bits}
 use Rattle.heap_redo.specs.After.{applied, number_of}
 use Rattle.heap_page.specs.Item.{Item, unused, normal, redirect, dead, is_normal, numbered, tuple_in}
@@ -135,6 +135,7 @@ own_in rec block (Freeze horizon catalogue plans) vs = freezes_in_block block.bl
 own_in rec block (Visible horizon flags) vs = tt
 own_in rec block (Truncate number locator flags) vs = tt
 own_in rec block (Locks entries) vs = tt
+own_in rec block (Multixact id offset members) vs = tt
 own_in rec block Other vs = tt
 
 -- the births of a page's items

@@ -8,6 +8,8 @@ use Rattle.row_model.specs.Origins.{LogOrigin}
 use Rattle.transaction_model.specs.LegalTransactions.{Legal}
 use Rattle.xact_redo.specs.TransactionsOf.{transactions_of}
 use Rattle.row_model.specs.Versions.{Version, version_at}
+use Rattle.row_model.specs.Multixacts.{made_by}
+use Rattle.row_model.specs.LegalRows.{MakesMultixact}
 use Rattle.row_model.specs.Shows.{ShowsPlace, ShowsBlock}
 use Rattle.row_model.specs.Shown.{HasNone, ShowsSeen, ShowsTable, AreApart}
 use Rattle.row_redo.proofs.Fitting.{TuplesFit}
@@ -70,13 +72,13 @@ holds_behind from log vs count at end block bad_block less h = tt
 holds_behind from log vs count at end block (seen_page lsn items) less (in_table, before, shows, fits) = omega arith
 
 pub holds_later :
-    (from : LogOrigin) (rec : Rec) (older : List Rec) → Legal from.transactions (transactions_of (rec ∷ older)) → (vs : List Version)
-    (count at : ℕ) (block : ℕ) (seen : Seen) → Holds from older vs count at block seen
-    → Holds from (rec ∷ older) vs count at block seen
-holds_later from rec older legal vs count at block absent h = h
-holds_later from rec older legal vs count at block bad_block h = h
-holds_later from rec older legal vs count at block (seen_page lsn items) (in_table, before, shows, fits) =
-    (in_table, before, block_later from rec older legal vs block items shows, fits)
+    (from : LogOrigin) (rec : Rec) (older : List Rec) → Legal from.transactions (transactions_of (rec ∷ older))
+    → MakesMultixact older (made_by rec.kind) → (vs : List Version) → AreSound from older vs → (count at : ℕ) (block : ℕ)
+    (seen : Seen) → Holds from older vs count at block seen → Holds from (rec ∷ older) vs count at block seen
+holds_later from rec older legal makes vs sound count at block absent h = h
+holds_later from rec older legal makes vs sound count at block bad_block h = h
+holds_later from rec older legal makes vs sound count at block (seen_page lsn items) (in_table, before, shows, fits) =
+    (in_table, before, block_later from rec older legal makes vs block items (sound block) shows, fits)
 
 holds_shows :
     (from : LogOrigin) (log : List Rec) (vs : List Version) (count at : ℕ) (block : ℕ) (seen : Seen)

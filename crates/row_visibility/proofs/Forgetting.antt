@@ -20,7 +20,7 @@ from_zero (p ∷ pairs) =
     ap (λ (t : Bool). cond t (p ∷ from_sub pairs 0) (from_sub pairs 0)) (le-leb 0 p.sub (omega arith))
     ∙ ap (λ (rest : List Pair). p ∷ rest) (from_zero pairs)
 
-none_forgotten : (s : TransactionState) → s ≡ forgetting 0 s
+pub none_forgotten : (s : TransactionState) → s ≡ forgetting 0 s
 unfolding forgetting
 none_forgotten s = ap (λ (pairs : List Pair). record s { parents = pairs }) (sym (from_zero s.parents))
 

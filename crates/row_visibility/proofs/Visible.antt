@@ -1,6 +1,7 @@
 -- A snapshot that decides as the log does sees exactly the rows.
-use Rattle.std.proofs.Common.{◌≡◌, ℕ, Bool, true, false, not, ◌&&◌, ◌||◌, ◌==◌, cond, List, [], ◌++◌, Some, Result, Ok, refl, sym, ap, ◌∙◌}
+use Rattle.std.proofs.Common.{◌≡◌, ℕ, Bool, true, false, not, ◌&&◌, ◌||◌, ◌==◌, cond, List, [], ◌++◌, Option, None, Some, Result, Ok, refl, sym, ap, ◌∙◌}
 use Rattle.std.proofs.lemmas.Bool.{and_right, eqb-true, false≢true, true≢false}
+use Rattle.pg_types.specs.declared.names.Xid.{Xid}
 use Rattle.pg_types.specs.declared.status.Status.{Status}
 use Rattle.pg_types.specs.declared.status.Unknown.{Unknown}
 use Rattle.pg_types.specs.Numbers.{has_bits}
@@ -8,21 +9,22 @@ use Rattle.heap_tuple.specs.Tuple.{infomask_of, max_of, xmin_of}
 use Rattle.heap_tuple.specs.declared.tuple_view.MaxOf.{MaxOf}
 use Rattle.heap_tuple.specs.declared.tuple_view.MaxOf.TheVariants.{None as NoDeleter, Xid as DeletedBy, Multi}
 use Rattle.standby_snapshot.specs.Snapshot.{SnapshotData, in_progress, take_of}
-use Rattle.tuple_visibility.specs.Visible.{counts, deleter_counts, deleter_of, inserter_counts, is_committed, unless_deleted, visible_of, xmin_marks}
+use Rattle.tuple_visibility.specs.Visible.{counts, deleter_counts, deleter_of, inserter_counts, is_committed, unless_deleted, updater_counts, visible_of, xmin_marks}
 use Rattle.transaction_model.specs.TransactionLaws.{SnapshotDecides, StateAgrees}
 use Rattle.subtrans.specs.Parents.{topmost_of}
+use Rattle.multixact.specs.Made.{Made}
 use Rattle.typed_records.specs.declared.types.Rec.{Rec}
 use Rattle.row_model.specs.Versions.{Version, Inserter, Nobody, Always, By, is_frozen}
 use Rattle.row_model.specs.Origins.{LogOrigin, committed_in}
-use Rattle.row_model.specs.Multixacts.{WasMade, deleter_in, multixacts}
-use Rattle.row_model.specs.Rows.{counts as inserter_is_in, is_deleted, is_row}
+use Rattle.row_model.specs.Multixacts.{WasMade, deleter_in, multixacts, updater_of}
+use Rattle.row_model.specs.Rows.{counts as inserter_is_in, has_committed, is_deleted, is_row}
 use Rattle.row_model.specs.Shows.{AreMarksTrue, Shows, ShowsDeleter, ShowsInserter}
 use Rattle.xact_redo.specs.TransactionsOf.{transactions_of}
-use Rattle.xact_redo.specs.Sees.{no_multixacts}
 use Rattle.row_visibility.specs.Sees.{SeesOpened, SeesRows}
 use Rattle.row_visibility.proofs.Along.{decided_then, legal_older}
 use Rattle.row_visibility.proofs.Forgetting.{along_on}
 use Rattle.row_visibility.proofs.Statuses.{committed_along, first_committed, zero_not_committed}
+use Rattle.row_visibility.proofs.Updaters.{updaters_along}
 
 -- a mark that is true tells nothing more
 marked_or : (marked c : Bool) → (marked ≡ true → c ≡ true) → (marked || c) ≡ c
@@ -57,10 +59,12 @@ seen_is i true e d same gone =
     ap (λ (t : Bool). cond t (unless_deleted d) (Ok false)) same ∙ ap unless_deleted (gone refl)
 seen_is i false e d same gone = ap (λ (t : Bool). cond t (unless_deleted d) (Ok false)) same
 
--- a snapshot by which an id that committed by now is not in progress exactly where it had committed as it was taken
-module _ (o : LogOrigin) (log : List Rec) (snapshot : SnapshotData) (topmost : ℕ → ℕ) (statuses : ℕ → Status) (was : ℕ → Bool)
+-- a snapshot by which an id that committed by now is not in progress exactly where it had committed as it was taken, with the
+-- statuses and the multixacts of now
+module _ (o : LogOrigin) (log : List Rec) (snapshot : SnapshotData) (topmost : ℕ → ℕ) (statuses : ℕ → Status) (updaters : Made)
+    (was : ℕ → Bool)
     (decided : (x : ℕ) → (not (in_progress snapshot topmost x) && committed_in o log x) ≡ was x)
-    (same : (x : ℕ) → is_committed (statuses x) ≡ committed_in o log x)
+    (same : (x : ℕ) → is_committed (statuses x) ≡ committed_in o log x) (made_are : updaters ≡ multixacts log)
     (first : (x : ℕ) → (x == 1 || x == 2) ≡ true → was x ≡ true) (zero : was 0 ≡ false) where
   -- what has not committed by now had not
   was_not : (x : ℕ) → committed_in o log x ≡ false → was x ≡ false
@@ -75,27 +79,48 @@ module _ (o : LogOrigin) (log : List Rec) (snapshot : SnapshotData) (topmost : �
       ∙ ap (λ (t : Bool). not (in_progress snapshot topmost x) && t) (marked_or marked (committed_in o log x) h)
       ∙ decided x
 
+  -- the transaction that a deleter stands for had not committed, if there is one
+  none_committed : (x : Option ℕ) → ((y : ℕ) → x ≡ Some y → was y ≡ false) → has_committed was x ≡ false
+  none_committed None failed = refl
+  none_committed (Some x) failed = failed x refl
+
+  -- the updater of a multixact, for which there is no mark
+  updater_is :
+      (id : ℕ) (updater : Option Xid)
+      → updater_counts snapshot topmost statuses id (Some updater) ≡ Ok (has_committed was (updater_of (Some updater)))
+  updater_is id None = refl
+  updater_is id (Some x) = ap Ok (counts_is false x.0 (λ h. absurd (false≢true h)))
+
+  multi_is :
+      (id : ℕ) (updater : Option Xid) → multixacts log id ≡ Some updater
+      → updater_counts snapshot topmost statuses id (updaters id) ≡ Ok (is_deleted (multixacts log) was (Multi id))
+  multi_is id updater is =
+      ap (λ (made : Made). updater_counts snapshot topmost statuses id (made id)) made_are
+      ∙ ap (updater_counts snapshot topmost statuses id) is ∙ updater_is id updater
+      ∙ sym (ap (λ (found : Option (Option Xid)). Ok (has_committed was (updater_of found))) is)
+
   deleter_is :
       (d : MaxOf) (invalid marked : Bool) → WasMade log d
       → ((x : ℕ) → deleter_in log d ≡ Some x → invalid ≡ true → was x ≡ false)
       → ((x : ℕ) → deleter_in log d ≡ Some x → marked ≡ true → committed_in o log x ≡ true)
-      → deleter_counts snapshot topmost statuses no_multixacts marked (cond invalid NoDeleter d)
+      → deleter_counts snapshot topmost statuses updaters marked (cond invalid NoDeleter d)
       ≡ Ok (is_deleted (multixacts log) was d)
   deleter_is NoDeleter true marked made failed done = refl
   deleter_is NoDeleter false marked made failed done = refl
   deleter_is (DeletedBy x) true marked made failed done = ap Ok (sym (failed x.0 refl refl))
   deleter_is (DeletedBy x) false marked made failed done = ap Ok (counts_is marked x.0 (done x.0 refl))
-  deleter_is (Multi id) invalid marked (updater, is) failed done = cc
+  deleter_is (Multi id) true marked made failed done = ap Ok (sym (none_committed (deleter_in log (Multi id)) (λ x e. failed x e refl)))
+  deleter_is (Multi id) false marked (updater, is) failed done = multi_is id updater is
 
   -- the deleter that a tuple shows
   deleter_shown :
       (v : Version) (tuple : List ℕ) → max_of tuple ≡ v.deleter → AreMarksTrue o log v tuple → WasMade log v.deleter
-      → deleter_counts snapshot topmost statuses no_multixacts (has_bits (infomask_of tuple) 0x0400) (deleter_of tuple)
+      → deleter_counts snapshot topmost statuses updaters (has_bits (infomask_of tuple) 0x0400) (deleter_of tuple)
       ≡ Ok (is_deleted (multixacts log) was v.deleter)
   unfolding deleter_of
   deleter_shown v tuple is marks made =
       ap (λ (d : MaxOf).
-      deleter_counts snapshot topmost statuses no_multixacts (has_bits (infomask_of tuple) 0x0400)
+      deleter_counts snapshot topmost statuses updaters (has_bits (infomask_of tuple) 0x0400)
       (cond (has_bits (infomask_of tuple) 0x0800) NoDeleter d))
       is
       ∙ deleter_is v.deleter (has_bits (infomask_of tuple) 0x0800) (has_bits (infomask_of tuple) 0x0400) made
@@ -162,7 +187,7 @@ module _ (o : LogOrigin) (log : List Rec) (snapshot : SnapshotData) (topmost : �
   deleter_by :
       (v : Version) (tuple : List ℕ) (i : Inserter) → ShowsDeleter tuple i v.deleter → AreMarksTrue o log v tuple
       → WasMade log v.deleter → inserter_is_in was i ≡ true
-      → deleter_counts snapshot topmost statuses no_multixacts (has_bits (infomask_of tuple) 0x0400) (deleter_of tuple)
+      → deleter_counts snapshot topmost statuses updaters (has_bits (infomask_of tuple) 0x0400) (deleter_of tuple)
       ≡ Ok (is_deleted (multixacts log) was v.deleter)
   deleter_by v tuple Nobody shows marks made h = absurd (false≢true h)
   deleter_by v tuple Always shows marks made h = deleter_shown v tuple shows marks made
@@ -171,21 +196,21 @@ module _ (o : LogOrigin) (log : List Rec) (snapshot : SnapshotData) (topmost : �
   pub sees_is :
       (v : Version) (tuple : List ℕ) → Shows o log v tuple → WasMade log v.deleter
       → (v.frozen ≡ true → inserter_is_in was v.inserter ≡ true)
-      → visible_of tuple snapshot topmost statuses no_multixacts ≡ Ok (is_row (multixacts log) was v)
+      → visible_of tuple snapshot topmost statuses updaters ≡ Ok (is_row (multixacts log) was v)
   unfolding visible_of
   sees_is v tuple shows made frozen =
       seen_is (inserter_counts tuple snapshot topmost statuses) (inserter_is_in was v.inserter)
       (is_deleted (multixacts log) was v.deleter)
-      (deleter_counts snapshot topmost statuses no_multixacts (has_bits (infomask_of tuple) 0x0400) (deleter_of tuple))
+      (deleter_counts snapshot topmost statuses updaters (has_bits (infomask_of tuple) 0x0400) (deleter_of tuple))
       (inserter_is v tuple v.inserter (is_frozen tuple) refl refl (λ h. frozen (sym shows.frozen ∙ h)) shows.inserter shows.marks)
       (deleter_by v tuple v.inserter shows.deleter shows.marks made)
 
 pub sees_then : StateAgrees → SnapshotDecides → SeesOpened
 sees_then agrees decide o later opened was now none legal along ready since v tuple shows sound frozen =
-    sees_is o (later ++ opened) (take_of was.known) (topmost_of now.parents) now.statuses (committed_in o opened)
+    let along_now = along_on later opened was now (take_of was.known).xmin along since in
+    sees_is o (later ++ opened) (take_of was.known) (topmost_of now.parents) now.statuses now.updaters (committed_in o opened)
     (decided_then agrees decide o.transactions later opened was now none legal along ready since)
-    (committed_along o.transactions (later ++ opened) now none legal
-    (along_on later opened was now (take_of was.known).xmin along since))
+    (committed_along o.transactions (later ++ opened) now none legal along_now) (updaters_along (later ++ opened) now along_now)
     (first_committed o.transactions.at (transactions_of opened))
     (zero_not_committed o.transactions (transactions_of opened) (legal_older o.transactions later opened legal)) v tuple shows
     sound.made frozen

@@ -72,8 +72,8 @@ SeesRows =
     → (v : Version) (tuple : List ℕ) → Shows o log v tuple → IsSound o log v
     → sees state tuple ≡ Ok (is_row (multixacts log) (committed_in o log) v)
 
--- a snapshot that was taken earlier sees exactly the tuples whose versions were rows then, where the inserter of one that
--- is marked frozen counted then
+-- a snapshot that was taken earlier sees exactly the tuples whose versions are rows by what was committed then, where the
+-- inserter of one that is marked frozen counted then; a multixact that shows a deleter of then may have been made later
 abbrev pub SeesOpened : Type 0
 SeesOpened =
     (o : LogOrigin) (later opened : List Rec) (was now : TransactionState) → HasNoStatuses o.transactions.at
@@ -81,4 +81,4 @@ SeesOpened =
     → IsAlongFrom was (take_of was.known).xmin later now
     → (v : Version) (tuple : List ℕ) → Shows o (later ++ opened) v tuple → IsSound o (later ++ opened) v
     → (v.frozen ≡ true → counts (committed_in o opened) v.inserter ≡ true)
-    → sees_by (take_of was.known) now tuple ≡ Ok (is_row (multixacts opened) (committed_in o opened) v)
+    → sees_by (take_of was.known) now tuple ≡ Ok (is_row (multixacts (later ++ opened)) (committed_in o opened) v)

@@ -37,7 +37,7 @@ pub fn sees_rows()
     transaction_model::transactions::snapshot_decides();
 }
 
-/// A snapshot that was taken earlier sees exactly the tuples whose versions were rows then.
+/// A snapshot that was taken earlier sees exactly the tuples whose versions are rows by what was committed then.
 pub fn sees_opened()
     ensures { SeesOpened }
 {

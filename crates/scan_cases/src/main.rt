@@ -21,7 +21,7 @@ use std::{fs, io};
 const SEGMENT_FILE: &str = "000000010000000000000002";
 
 /// The files with the segment's first bytes.
-const CASES: [&str; 103] = [
+const CASES: [&str; 116] = [
     "plain",
     "empty_table",
     "first_header_unread",
@@ -69,6 +69,19 @@ const CASES: [&str; 103] = [
     "short_number",
     "many_columns",
     "multixact",
+    "multixact_updater",
+    "multixact_of_lockers",
+    "multixact_updaters",
+    "multixact_of_two_updaters",
+    "multixact_made_twice",
+    "multixact_of_id_0",
+    "multixact_marked_committed",
+    "multixact_marked_invalid",
+    "multixact_never_made",
+    "multixact_frozen",
+    "multixact_of_a_thousand",
+    "multixact_made_later",
+    "copy_freeze",
     "short_main_data",
     "prepared",
     "in_place",

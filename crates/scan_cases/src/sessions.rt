@@ -7,7 +7,7 @@ use std::alloc::AllocError;
 use std::{fs, io};
 
 /// The files with the sessions.
-const CASES: [&str; 29] = [
+const CASES: [&str; 32] = [
     "line_by_line",
     "empty_source",
     "status",
@@ -37,6 +37,9 @@ const CASES: [&str; 29] = [
     "pending_ends_by_a_whole_record",
     "subtransaction_aborts_alone",
     "hundred_thousand_subtransactions",
+    "multixact_updater",
+    "multixact_made_later",
+    "copy_freeze",
 ];
 
 /// A session: what it replays, and the bytes of its source.

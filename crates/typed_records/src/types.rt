@@ -1,7 +1,9 @@
 use crate::blocks::RecBlocks;
 use crate::new_tuples::NewTuples;
 use pg_types::{Locator, Lsn, Tli, Xid};
-use record_fields::{FreezePlans, Lines, Locators, LockEntries, RecBytes, Redirects, Xids};
+use record_fields::{
+    FreezePlans, Lines, Locators, LockEntries, Members, RecBytes, Redirects, Xids,
+};
 use thiserror::Error;
 use wal_record::RecordHead;
 
@@ -194,6 +196,13 @@ pub enum RecKind<'a> {
     /// Access exclusive locks that transactions hold (`xl_standby_locks`, standbydefs.h).
     Locks {
         entries: LockEntries<'a>,
+    },
+    /// A multixact is made (`xl_multixact_create`, multixact.h).
+    Multixact {
+        id: u32,
+        /// The offset of its first member among those of all multixacts.
+        offset: u32,
+        members: Members<'a>,
     },
     /// A record that a standby of one database passes over.
     Other,

@@ -1,5 +1,5 @@
 -- The transaction ids of a record's main data are of 32 bits.
-use Rattle.std.proofs.Common.{◌≡◌, ℕ, zero, suc, ◌+◌, ◌^◌, ◌<◌, ◌==◌, Bool, true, false, cond, not, nat_le, nat_lt, length, List, [], ◌∷◌, All, drop, slice_index, Option, Some, None, Result, Ok, Err, IfOk, refl, sym, subst, arith}
+use Rattle.std.proofs.Common.{◌≡◌, ℕ, zero, suc, ◌+◌, ◌<◌, ◌==◌, Bool, true, false, cond, not, nat_le, nat_lt, length, List, [], ◌∷◌, All, drop, slice_index, Option, Some, None, Result, Ok, Err, IfOk, refl, sym, subst, arith}
 use Rattle.std.specs.List.{list_any}
 use Rattle.std.proofs.lemmas.Bool.{cond_both, leb-false, or_parts}
 use Rattle.std.proofs.lemmas.List.Elements.{All-cons, All-head, All-nil}
@@ -17,7 +17,7 @@ use Rattle.typed_records.specs.declared.types.What.TheVariants.{Epoch}
 use Rattle.typed_records.specs.declared.types.RecKind.{RecKind}
 use Rattle.typed_records.specs.declared.types.RecKind.TheVariants.{Assignment, Checkpoint, Ended, Running}
 use Rattle.wal_bodies.specs.Fields.{◌>>=◌, main_block, needed, needed_number, xid_at, xids_at}
-use Rattle.wal_bodies.specs.Kinds.{assignment, backup_end, checkpoint, counted_xids, database_kind, ended, kind_of, later, locks, count_from, overwrite, page_writes, parameters, parts_by, running, standby_kind, storage_kind, time_from, xact_kind, xinfo_from, xlog_kind}
+use Rattle.wal_bodies.specs.Kinds.{assignment, backup_end, checkpoint, counted_xids, database_kind, ended, kind_of, locks, count_from, multixact, multixact_kind, overwrite, page_writes, parameters, parts_by, running, standby_kind, storage_kind, time_from, xact_kind, xinfo_from, xlog_kind}
 use Rattle.wal_bodies.specs.HeapKinds.{by_block, confirm, delete, freeze, freeze_plans, freeze_with, heap2_kind, heap_kind, in_place, insert, lock, lock_updated, multi_insert, multi_insert_of, prune, prune_lists, prune_with, update, vacuum, vacuum_lines, vacuum_with, visible}
 use Rattle.wal_bodies.specs.Typed.{listed_in, is_last, names_last}
 use Rattle.wal_bodies.specs.Xids.{IsShort, kind_xids, record_xids}
@@ -157,9 +157,15 @@ unfolding database_kind
 database_fits database info main =
     search (either, refused, none)
 
-later_fits : (wanted info : ℕ) → Fits (later wanted info)
-later_fits wanted info =
+multixact_fits : (main : List ℕ) → Fits (multixact main)
+unfolding multixact
+multixact_fits main =
     search (either, refused, none)
+
+multixact_kind_fits : (info : ℕ) (main : List ℕ) → Fits (multixact_kind info main)
+unfolding multixact_kind
+multixact_kind_fits info main =
+    search (either, none, multixact_fits)
 
 insert_fits : (main : List ℕ) → Fits (insert main)
 unfolding insert
@@ -278,7 +284,7 @@ heap2_fits rec =
 kind_fits : (rec : Record) (database : ℕ) (known : List Locator) → AreBytes rec.main → Fits (kind_of rec database known)
 unfolding kind_of
 kind_fits rec database known all =
-    search (either, none, xlog_fits, xact_fits, storage_fits, later_fits, database_fits, standby_fits, heap2_fits, heap_fits) depth 16
+    search (either, none, xlog_fits, xact_fits, storage_fits, multixact_kind_fits, database_fits, standby_fits, heap2_fits, heap_fits) depth 16
 
 -- an id that is not the last one of the first epoch, or past it
 below_last : (xid : Xid) → is_last xid ≡ false → IsShort xid

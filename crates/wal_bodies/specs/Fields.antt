@@ -1,7 +1,7 @@
 -- Fields of a record's main data and of a block's data, and the steps that may refuse.
 use Rattle.std.specs.Prelude.{ℕ, nat_lt, List, length, drop, Option, Some, None, Result, Ok, Err, if◌then◌else◌}
 pub use Rattle.record_fields.specs.Fields.{lsn_at, tli_at, xid_at, locator_at}
-unfoldable pub use Rattle.record_fields.specs.Fields.{xids_at, lines_at, first_lines, redirects_at, locators_at, lock_entries_at, plans_at, planned_lines}
+unfoldable pub use Rattle.record_fields.specs.Fields.{xids_at, lines_at, first_lines, redirects_at, locators_at, lock_entries_at, members_at, plans_at, planned_lines}
 pub use Rattle.typed_records.specs.Fields.{◌>>=◌, if_main, main_block}
 use Rattle.typed_records.specs.declared.types.BodyFault.{BodyFault}
 use Rattle.typed_records.specs.declared.types.BodyFault.TheVariants.{Length}

@@ -1,13 +1,13 @@
 -- What the main data of a heap record says (heapam_xlog.h). The info's highest bit tells that a page is
 -- made anew, which the block says itself (XLOG_HEAP_OPMASK leaves it out).
-use Rattle.std.specs.Prelude.{ℕ, ◌+◌, ◌-◌, ◌*◌, ◌/◌, ◌==◌, Bool, true, false, ◌&&◌, ◌||◌, bit_and, nat_lt, List, [], length, slice_index, Option, Some, None, Result, Ok, Err, if◌then◌else◌}
+use Rattle.std.specs.Prelude.{ℕ, ◌+◌, ◌-◌, ◌*◌, ◌/◌, ◌==◌, Bool, true, false, ◌||◌, bit_and, nat_lt, List, [], length, slice_index, Option, Some, None, Result, Ok, Err, if◌then◌else◌}
 use Rattle.std.specs.List.{list_any}
-use Rattle.pg_types.specs.Numbers.{number_at, has_bits}
+use Rattle.pg_types.specs.Numbers.{number_at}
 use Rattle.pg_types.specs.declared.names.Locator.{Locator}
 use Rattle.wal_record.specs.Record.{Block, Record}
 use Rattle.typed_records.specs.declared.types.BodyFault.{BodyFault}
 use Rattle.typed_records.specs.declared.types.BodyFault.TheVariants.{Length, Unsupported}
-use Rattle.typed_records.specs.declared.types.What.TheVariants.{InPlace, NotYet}
+use Rattle.typed_records.specs.declared.types.What.TheVariants.{InPlace}
 use Rattle.typed_records.specs.declared.types.RecKind.{RecKind}
 use Rattle.typed_records.specs.declared.types.RecKind.TheVariants.{Insert, Delete, Update, Confirm, Lock, MultiInsert, LockUpdated, Prune, Vacuum, Freeze, Visible, Other}
 use Rattle.wal_bodies.specs.Fields.{◌>>=◌, xid_at, lines_at, first_lines, redirects_at, plans_at, planned_lines, main_block, needed}
@@ -18,18 +18,16 @@ use Rattle.pg_types.specs.Locators.{same_locator}
 unfoldable pub insert : List ℕ → Result RecKind BodyFault
 insert main = if nat_lt (length main) 3 then Err Length else Ok (Insert (number_at 2 main 0) (slice_index main 2))
 
--- xl_heap_delete; bit 1 of the bits tells that xmax is a multixact (XLHL_XMAX_IS_MULTI), which is not read yet
+-- xl_heap_delete; bit 1 of the bits tells that xmax is a multixact (XLHL_XMAX_IS_MULTI), here and below
 unfoldable pub delete : List ℕ → Result RecKind BodyFault
 delete main =
     if nat_lt (length main) 8 then Err Length
-    else if has_bits (slice_index main 6) 1 then Err (Unsupported NotYet)
     else Ok (Delete (xid_at main 0) (number_at 2 main 4) (slice_index main 6) (slice_index main 7))
 
 -- xl_heap_update
 unfoldable pub update : List ℕ → Result RecKind BodyFault
 update main =
     if nat_lt (length main) 14 then Err Length
-    else if has_bits (slice_index main 6) 1 then Err (Unsupported NotYet)
     else Ok (Update
     (xid_at main 0) (number_at 2 main 4) (slice_index main 6) (slice_index main 7)
     (xid_at main 8) (number_at 2 main 12))
@@ -42,14 +40,12 @@ confirm main = if nat_lt (length main) 2 then Err Length else Ok (Confirm (numbe
 unfoldable pub lock : List ℕ → Result RecKind BodyFault
 lock main =
     if nat_lt (length main) 8 then Err Length
-    else if has_bits (slice_index main 6) 1 then Err (Unsupported NotYet)
     else Ok (Lock (xid_at main 0) (number_at 2 main 4) (slice_index main 6) (slice_index main 7))
 
 -- xl_heap_lock_updated
 unfoldable pub lock_updated : List ℕ → Result RecKind BodyFault
 lock_updated main =
     if nat_lt (length main) 8 then Err Length
-    else if has_bits (slice_index main 6) 1 then Err (Unsupported NotYet)
     else Ok (LockUpdated (xid_at main 0) (number_at 2 main 4) (slice_index main 6) (slice_index main 7))
 
 -- the count of a multi-insert

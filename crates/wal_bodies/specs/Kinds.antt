@@ -9,8 +9,8 @@ use Rattle.typed_records.specs.declared.types.BodyFault.{BodyFault}
 use Rattle.typed_records.specs.declared.types.BodyFault.TheVariants.{Length, Unsupported}
 use Rattle.typed_records.specs.declared.types.What.TheVariants.{Prepared, Minimal, PageWrites, Database, Epoch, NotYet}
 use Rattle.typed_records.specs.declared.types.RecKind.{RecKind}
-use Rattle.typed_records.specs.declared.types.RecKind.TheVariants.{Checkpoint, BackupEnd, Parameters, FullPageWrites, Images, Overwrite, Ended, Assignment, Running, Truncate, Locks, Other}
-use Rattle.wal_bodies.specs.Fields.{◌>>=◌, lsn_at, tli_at, xid_at, xids_at, locator_at, locators_at, lock_entries_at, needed_number, behind}
+use Rattle.typed_records.specs.declared.types.RecKind.TheVariants.{Checkpoint, BackupEnd, Parameters, FullPageWrites, Images, Overwrite, Ended, Assignment, Running, Truncate, Locks, Multixact, Other}
+use Rattle.wal_bodies.specs.Fields.{◌>>=◌, lsn_at, tli_at, xid_at, xids_at, locator_at, locators_at, lock_entries_at, members_at, needed_number, behind}
 use Rattle.wal_bodies.specs.HeapKinds.{heap_kind, heap2_kind}
 
 -- A checkpoint (CheckPoint, pg_control.h). Timelines other than the first are not read yet.
@@ -180,9 +180,17 @@ standby_kind info main =
     else if info == 0x10 then running main
     else Ok Other
 
--- a kind of which one info is not read yet, and all others are passed over
-abbrev pub later : ℕ → ℕ → Result RecKind BodyFault
-later wanted info = if info == wanted then Err (Unsupported NotYet) else Ok Other
+-- a multixact that is made, with its members (xl_multixact_create, multixact.h)
+unfoldable pub multixact : List ℕ → Result RecKind BodyFault
+multixact main =
+    if nat_lt (length main) 12 then Err Length
+    else if nat_le 2147483648 (number_at 4 main 8) then Err Length
+    else if nat_lt (length main) (12 + 8 * number_at 4 main 8) then Err Length
+    else Ok (Multixact (number_at 4 main 0) (number_at 4 main 4) (members_at main 12 (number_at 4 main 8)))
+
+-- manager 6, multixacts (multixact.h): one is made (XLOG_MULTIXACT_CREATE_ID)
+unfoldable pub multixact_kind : ℕ → List ℕ → Result RecKind BodyFault
+multixact_kind info main = if info == 0x20 then multixact main else Ok Other
 
 -- The kind of a record. The low four bits of the info are the log's own (XLR_INFO_MASK, xlogrecord.h),
 -- and heap records and ends of transactions have a mark in the highest one.
@@ -192,7 +200,7 @@ kind_of rec database known =
     else if rec.head.manager == 1 then xact_kind rec.head.info rec.main
     else if rec.head.manager == 2 then storage_kind (bit_and rec.head.info 0xF0) rec.main
     else if rec.head.manager == 4 then database_kind database (bit_and rec.head.info 0xF0) rec.main
-    else if rec.head.manager == 6 then later 0x20 (bit_and rec.head.info 0xF0)
+    else if rec.head.manager == 6 then multixact_kind (bit_and rec.head.info 0xF0) rec.main
     else if rec.head.manager == 8 then standby_kind (bit_and rec.head.info 0xF0) rec.main
     else if rec.head.manager == 9 then heap2_kind rec
     else if rec.head.manager == 10 then heap_kind rec known

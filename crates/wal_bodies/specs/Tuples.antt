@@ -7,7 +7,7 @@ use Rattle.typed_records.specs.declared.types.BodyFault.{BodyFault}
 use Rattle.typed_records.specs.declared.types.BodyFault.TheVariants.{Length}
 use Rattle.typed_records.specs.declared.types.NewTuple.{NewTuple}
 use Rattle.typed_records.specs.declared.types.RecKind.{RecKind}
-use Rattle.typed_records.specs.declared.types.RecKind.TheVariants.{Checkpoint, BackupEnd, Parameters, FullPageWrites, Images, Overwrite, Ended, Assignment, Running, Insert, Delete, Update, Confirm, Lock, MultiInsert, LockUpdated, Prune, Vacuum, Freeze, Visible, Truncate, Locks, Other}
+use Rattle.typed_records.specs.declared.types.RecKind.TheVariants.{Checkpoint, BackupEnd, Parameters, FullPageWrites, Images, Overwrite, Ended, Assignment, Running, Insert, Delete, Update, Confirm, Lock, MultiInsert, LockUpdated, Prune, Vacuum, Freeze, Visible, Truncate, Locks, Multixact, Other}
 use Rattle.typed_records.specs.Tuples.{tuple_with, listed_from}
 use Rattle.wal_bodies.specs.Fields.{◌>>=◌, needed_number, main_block, needed}
 
@@ -96,4 +96,5 @@ tuples_of (Freeze horizon catalogue plans) rec = no_tuples rec
 tuples_of (Visible horizon flags) rec = Ok []
 tuples_of (Truncate block locator flags) rec = Ok []
 tuples_of (Locks entries) rec = Ok []
+tuples_of (Multixact id offset members) rec = Ok []
 tuples_of Other rec = Ok []

@@ -13,7 +13,7 @@ use Rattle.typed_records.specs.declared.types.NewTuple.{NewTuple}
 use Rattle.typed_records.specs.declared.types.RecBlock.{RecBlock}
 use Rattle.typed_records.specs.declared.types.Rec.{Rec}
 use Rattle.typed_records.specs.declared.types.RecKind.{RecKind}
-use Rattle.typed_records.specs.declared.types.RecKind.TheVariants.{Checkpoint, BackupEnd, Parameters, FullPageWrites, Images, Overwrite, Ended, Assignment, Running, Insert, Delete, Update, Confirm, Lock, MultiInsert, LockUpdated, Prune, Vacuum, Freeze, Visible, Truncate, Locks, Other}
+use Rattle.typed_records.specs.declared.types.RecKind.TheVariants.{Checkpoint, BackupEnd, Parameters, FullPageWrites, Images, Overwrite, Ended, Assignment, Running, Insert, Delete, Update, Confirm, Lock, MultiInsert, LockUpdated, Prune, Vacuum, Freeze, Visible, Truncate, Locks, Multixact, Other}
 use Rattle.typed_records.specs.Blocks.{blocks_from, blocks_of}
 use Rattle.wal_bodies.specs.Fields.{◌>>=◌}
 use Rattle.wal_bodies.specs.Kinds.{kind_of}
@@ -43,6 +43,7 @@ ids_of (Freeze horizon catalogue plans) = 1
 ids_of (Visible horizon flags) = 2
 ids_of (Truncate block locator flags) = 0
 ids_of (Locks entries) = 0
+ids_of (Multixact id offset members) = 0
 ids_of Other = 0
 
 -- the blocks of a record of this kind; a visibility record has the heap's block as block 1
@@ -82,6 +83,7 @@ listed_in (Freeze horizon catalogue plans) = []
 listed_in (Visible horizon flags) = []
 listed_in (Truncate block locator flags) = []
 listed_in (Locks entries) = []
+listed_in (Multixact id offset members) = []
 listed_in Other = []
 
 -- the record names the last transaction id in its header, or in a list of ended or assigned ones

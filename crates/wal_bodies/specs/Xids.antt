@@ -7,7 +7,7 @@ use Rattle.typed_records.specs.declared.types.RecKind.{RecKind}
 use Rattle.typed_records.specs.declared.types.RecKind.TheVariants.{Assignment, Checkpoint, Ended, Running}
 
 -- those of the main data: the ended ones, the assigned ones with their top transaction, those of a running record, and the
--- next one of a checkpoint
+-- next one of a checkpoint; deleters that a heap record brings and members of a multixact tell nothing of who runs
 abbrev pub kind_xids : RecKind → List Xid
 kind_xids (Ended time xinfo xids files) = xids
 kind_xids (Assignment top xids) = top ∷ xids

@@ -8,9 +8,6 @@ use record_fields::{Lines, xid_at};
 use typed_records::{BodyFault, RecKind, What, main_block};
 use wal_record::{BlockView, RecordView};
 
-/// Of the bits that a record has for the mark of a tuple: xmax is a multixact (`XLHL_XMAX_IS_MULTI`).
-pub const IS_MULTI: u8 = 0x01;
-
 /// The kinds of heap records.
 #[tactic(auto, unfolding(crate::specs::HeapKinds::heap_kind))]
 pub(crate) fn heap_kind<'a>(
@@ -67,9 +64,6 @@ fn delete<'a>(main: &[u8]) -> Result<RecKind<'a>, BodyFault>
     if main.len() < 8 {
         return Err(BodyFault::Length);
     }
-    if main[6] & IS_MULTI != 0 {
-        return Err(BodyFault::Unsupported(What::NotYet));
-    }
     Ok(RecKind::Delete {
         xmax: xid_at(main, 0),
         line: u16_at(main, 4),
@@ -84,9 +78,6 @@ fn update<'a>(main: &[u8]) -> Result<RecKind<'a>, BodyFault>
 {
     if main.len() < 14 {
         return Err(BodyFault::Length);
-    }
-    if main[6] & IS_MULTI != 0 {
-        return Err(BodyFault::Unsupported(What::NotYet));
     }
     Ok(RecKind::Update {
         old_xmax: xid_at(main, 0),
@@ -117,9 +108,6 @@ fn lock<'a>(main: &[u8]) -> Result<RecKind<'a>, BodyFault>
     if main.len() < 8 {
         return Err(BodyFault::Length);
     }
-    if main[6] & IS_MULTI != 0 {
-        return Err(BodyFault::Unsupported(What::NotYet));
-    }
     Ok(RecKind::Lock {
         xmax: xid_at(main, 0),
         line: u16_at(main, 4),
@@ -134,9 +122,6 @@ fn lock_updated<'a>(main: &[u8]) -> Result<RecKind<'a>, BodyFault>
 {
     if main.len() < 8 {
         return Err(BodyFault::Length);
-    }
-    if main[6] & IS_MULTI != 0 {
-        return Err(BodyFault::Unsupported(What::NotYet));
     }
     Ok(RecKind::LockUpdated {
         xmax: xid_at(main, 0),

@@ -3,6 +3,7 @@
 #![tactic(auto)]
 
 mod heap;
+mod multixact;
 mod rec;
 mod removals;
 mod running;
@@ -12,11 +13,10 @@ mod typed;
 mod xact;
 mod xlog;
 
-pub use heap::IS_MULTI;
 pub use rec::one_form;
 pub use record_fields::{
-    FreezePlan, FreezePlans, Lines, Locators, LockEntries, LockEntry, RecBytes, Redirect,
-    Redirects, Xids,
+    FreezePlan, FreezePlans, Lines, Locators, LockEntries, LockEntry, Member, Members, RecBytes,
+    Redirect, Redirects, Xids,
 };
 pub use typed::body;
 pub use typed_records::{

@@ -1,5 +1,5 @@
 ghost use Rattle.std.specs.Prelude.{◌≡◌};
-ghost use Rattle.wal_bodies.specs.Kinds.{running, locks, standby_kind, database_kind, later};
+ghost use Rattle.wal_bodies.specs.Kinds.{running, locks, standby_kind, database_kind};
 
 use crate::xact::count_from;
 use pg_types::u32_at;
@@ -78,16 +78,6 @@ pub(crate) fn database_kind<'a>(
     }
     if u32_at(main, 0) == database {
         return Err(BodyFault::Unsupported(What::Database));
-    }
-    Ok(RecKind::Other)
-}
-
-/// One info of a manager is not read yet, and the others are passed over.
-pub(crate) fn later<'a>(wanted: u8, info: u8) -> Result<RecKind<'a>, BodyFault>
-    ensures { result ≡ later wanted info }
-{
-    if info == wanted {
-        return Err(BodyFault::Unsupported(What::NotYet));
     }
     Ok(RecKind::Other)
 }

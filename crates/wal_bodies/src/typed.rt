@@ -5,7 +5,8 @@ ghost use Rattle.wal_bodies.specs.Xids.{AreXidsShort, IsShort, record_xids};
 ghost use Rattle.wal_bodies.specs.Typed.{is_last, listed_in, names_last, read_as, typed};
 
 use crate::heap::{heap_kind, heap2_kind};
-use crate::running::{database_kind, later, standby_kind};
+use crate::multixact::multixact_kind;
+use crate::running::{database_kind, standby_kind};
 use crate::storage::storage_kind;
 use crate::tuples::blocks_of;
 use crate::xact::xact_kind;
@@ -81,7 +82,7 @@ fn kind_of<'a>(
         1 => xact_kind(head.info, main),
         2 => storage_kind(head.info & 0xF0, main),
         4 => database_kind(database, head.info & 0xF0, main),
-        6 => later(0x20, head.info & 0xF0),
+        6 => multixact_kind(head.info & 0xF0, main),
         8 => standby_kind(head.info & 0xF0, main),
         9 => heap2_kind(view),
         10 => heap_kind(view, known),

@@ -8,6 +8,7 @@ use Rattle.worked_logs.proofs.BrokenBirths.{births_only}
 use Rattle.worked_logs.proofs.BrokenDeleters.{deleters_only}
 use Rattle.worked_logs.proofs.BrokenBlocks.{blocks_only}
 use Rattle.worked_logs.proofs.BrokenMultixacts.{multixacts_only}
+use Rattle.worked_logs.proofs.BrokenNewMultixacts.{again_only, updaters_only, zero_only}
 use Rattle.worked_logs.proofs.BrokenRedo.{redone_only}
 use Rattle.worked_logs.proofs.BrokenTransactions.{transactions_only}
 use Rattle.worked_logs.proofs.BrokenApart.{apart_only}
@@ -39,6 +40,9 @@ each_breaks_holds legal =
       deleters = deleters_only keeps;
       blocks = blocks_only keeps;
       multixacts = multixacts_only keeps;
+      zero_multixact = zero_only keeps;
+      made_again = again_only keeps;
+      two_updaters = updaters_only keeps;
       redone = redone_only keeps;
       transactions = transactions_only keeps;
       apart = apart_only keeps;

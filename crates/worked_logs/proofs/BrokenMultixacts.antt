@@ -10,6 +10,7 @@ use Rattle.heap_redo.specs.TupleHeads.{deleted, head_bytes, head_of, locked, mar
 use Rattle.transaction_model.specs.LegalTransactions.{Legal}
 use Rattle.xact_redo.specs.TransactionsOf.{transaction_of}
 use Rattle.row_model.specs.Versions.{changed_at, version_at, with_step, with_steps}
+use Rattle.row_model.specs.Multixacts.{multixacts}
 use Rattle.row_model.specs.Locks.{locks, since, up_to_running}
 use Rattle.row_model.specs.RowSteps.{births, births_written, block_count, count_with, deleter_of_mark, own_steps, steps_in, update_steps, version_put, version_written, versions, view_after, view_with_record, whole_steps}
 use Rattle.row_model.specs.LegalSteps.{Stays}
@@ -25,7 +26,7 @@ unfolding view_after view_with_record redone_record redone redone_at redone_bloc
 multixacts_redone = refl
 
 multixacts_adds : (clause : Clause) → clause ≢ Multixacts → Adds clause worked_log lock_by_unmade
-unfolding versions block_count steps_in count_with own_steps births births_written whole_steps tuple_of head_bytes with_steps with_step version_at max_of is_lock_only number_at update_steps version_put version_written deleter_of_mark joined marked_mask changed_at renews_first since are_apart up_to_running locks transaction_of Legal
+unfolding versions block_count steps_in count_with own_steps births births_written whole_steps tuple_of head_bytes with_steps with_step version_at max_of is_lock_only number_at update_steps version_put version_written deleter_of_mark joined marked_mask changed_at renews_first since are_apart up_to_running locks transaction_of Legal multixacts
 multixacts_adds Births ne = (tt, tt)
 multixacts_adds Deleters ne = (Stays refl, tt)
 multixacts_adds Removals ne = (tt, tt)
@@ -42,7 +43,7 @@ multixacts_adds NewMultixacts ne = tt
 multixacts_adds Redone ne = multixacts_redone
 
 multixacts_breaks : Keeps Multixacts worked_origin worked_table (lock_by_unmade ∷ worked_log) → ⊥
-unfolding versions block_count steps_in count_with own_steps births births_written whole_steps tuple_of head_bytes with_steps with_step version_at max_of is_lock_only number_at update_steps version_put version_written deleter_of_mark joined marked_mask changed_at renews_first since are_apart up_to_running locks transaction_of Legal
+unfolding versions block_count steps_in count_with own_steps births births_written whole_steps tuple_of head_bytes with_steps with_step version_at max_of is_lock_only number_at update_steps version_put version_written deleter_of_mark joined marked_mask changed_at renews_first since are_apart up_to_running locks transaction_of Legal multixacts
 multixacts_breaks keeps = let (updater, made) = keeps.0.0 in cc
 
 pub multixacts_only : WorkedKeeps worked_log → BreaksOnly Multixacts (lock_by_unmade ∷ worked_log)

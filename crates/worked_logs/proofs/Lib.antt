@@ -14,6 +14,7 @@ mod BrokenLive
 mod BrokenLocks
 mod BrokenMarks
 mod BrokenMultixacts
+mod BrokenNewMultixacts
 mod BrokenOther
 mod BrokenRedo
 mod BrokenRemovals
@@ -27,6 +28,7 @@ mod DroppedLog
 mod EndRules
 mod Legal
 mod LockedLog
+mod MultixactLog
 mod NextId
 mod OneMore
 mod RemovalBegin

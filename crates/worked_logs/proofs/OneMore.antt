@@ -10,7 +10,8 @@ use Rattle.xact_redo.specs.TransactionsOf.{kind_of, transactions_of}
 use Rattle.row_model.specs.Versions.{Version}
 use Rattle.row_model.specs.RowSteps.{cut_of, versions, view_after}
 use Rattle.row_model.specs.LegalSteps.{BirthStep, DeleterStep, KeepsTo, MultixactStep, RemovalStep, horizon_of}
-use Rattle.row_model.specs.LegalRows.{AnewRule, BlocksRule, CheckpointRule, CutRule, ImageRule, LockRule, are_apart, is_redo, is_redo_own, renews_first}
+use Rattle.row_model.specs.Multixacts.{made_by}
+use Rattle.row_model.specs.LegalRows.{AnewRule, BlocksRule, CheckpointRule, CutRule, ImageRule, LockRule, MakesMultixact, are_apart, is_redo, is_redo_own, renews_first}
 use Rattle.row_model.specs.WorkedRows.{first_tuple, worked_block, worked_ids, worked_origin, worked_table}
 use Rattle.row_model.proofs.WorkedLog.{answered_view}
 use Rattle.worked_logs.specs.Clauses.{Clause, Births, Deleters, Removals, Cut, Blocks, Locks, CheckpointLocks, Multixacts, Renews, Apart, Shutdowns, Transactions, NewMultixacts, Redone, Keeps}
@@ -33,7 +34,7 @@ Adds Renews older rec = (redo : ℕ) → is_redo (rec ∷ older) redo ≡ true �
 Adds Apart older rec = are_apart rec.blocks ≡ true
 Adds Shutdowns older rec = is_redo_own rec ≡ true
 Adds Transactions older rec = Legal worked_ids (transactions_of older) → Legal worked_ids (transactions_of (rec ∷ older))
-Adds NewMultixacts older rec = Unit {0}
+Adds NewMultixacts older rec = MakesMultixact older (made_by rec.kind)
 Adds Redone older rec = is_ok (view_after worked_origin (worked_table ∷ []) (rec ∷ older)) ≡ true
 
 pub one_more : (clause : Clause) (older : List Rec) (rec : Rec) → Keeps clause worked_origin worked_table older → Adds clause older rec → Keeps clause worked_origin worked_table (rec ∷ older)
@@ -49,7 +50,7 @@ one_more Renews older rec keeps adds = adds
 one_more Apart older rec keeps adds = All-cons (λ (r : Rec). are_apart r.blocks ≡ true) rec older adds keeps
 one_more Shutdowns older rec keeps adds = All-cons (λ (r : Rec). is_redo_own r ≡ true) rec older adds keeps
 one_more Transactions older rec keeps adds = adds keeps
-one_more NewMultixacts older rec keeps adds = (tt, keeps)
+one_more NewMultixacts older rec keeps adds = (adds, keeps)
 one_more Redone older rec keeps adds = answered_view (view_after worked_origin (worked_table ∷ []) (rec ∷ older)) adds
 
 abbrev pub WorkedKeeps : List Rec → Type 0

@@ -1,15 +1,16 @@
 -- Logs, worked by hand, each of which breaks one clause of the legal log and no other: the log that row_model works by
 -- hand, which ends at 0x20001F0 with versions at lines 1 (deleted by 701) and 2 of block 0, and a record or three more.
--- Sources: heapam_xlog.h, xact.h, pg_control.h, standbydefs.h, storage_xlog.h.
+-- Sources: heapam_xlog.h, xact.h, pg_control.h, standbydefs.h, storage_xlog.h, multixact.h.
 use Rattle.std.specs.Prelude.{ℕ, pos, Bool, true, false, ◌≢◌, List, [], ◌∷◌, None}
 use Rattle.record_fields.specs.declared.entries.LockEntry.{LockEntry}
 use Rattle.record_fields.specs.declared.entries.FreezePlan.{FreezePlan}
+use Rattle.record_fields.specs.declared.members.Member.{Member}
 use Rattle.typed_records.specs.declared.types.NewTuple.{NewTuple}
 use Rattle.typed_records.specs.declared.types.RecBlock.{RecBlock}
 use Rattle.typed_records.specs.declared.types.Rec.{Rec}
-use Rattle.typed_records.specs.declared.types.RecKind.TheVariants.{Delete, Ended, Freeze, Images, Insert, Lock, Locks as HeldLocks, MultiInsert, Prune, Running, Truncate}
+use Rattle.typed_records.specs.declared.types.RecKind.TheVariants.{Delete, Ended, Freeze, Images, Insert, Lock, Locks as HeldLocks, MultiInsert, Multixact, Prune, Running, Truncate}
 use Rattle.row_model.specs.WorkedRows.{checkpoint_at, first_tuple, running_none, worked_block, worked_log, worked_origin, worked_record, worked_table}
-use Rattle.worked_logs.specs.Clauses.{Clause, Births, Deleters, Removals, Cut, Blocks, Locks, CheckpointLocks, Multixacts, Renews, Apart, Shutdowns, Transactions, Redone, Keeps}
+use Rattle.worked_logs.specs.Clauses.{Clause, Births, Deleters, Removals, Cut, Blocks, Locks, CheckpointLocks, Multixacts, Renews, Apart, Shutdowns, Transactions, NewMultixacts, Redone, Keeps}
 
 -- a log of the worked table breaks this clause, and keeps every other
 pub record BreaksOnly (clause : Clause) (log : List Rec) : Type 0 where
@@ -36,6 +37,29 @@ anew_again = worked_record 0x20001F0 0x2000228 702 9 0xD0 (MultiInsert 0 []) (ba
 -- 702 deletes line 2 by the multixact 5, which no record made: not a lock alone
 abbrev pub lock_by_unmade : Rec
 lock_by_unmade = worked_record 0x20001F0 0x2000228 702 10 0x60 (Lock (record { 0 = 5 }) 2 0x01 0) (bare_block 0 false ∷ [])
+
+-- a member of a multixact, by its status (MultiXactStatus): 0 a key-share lock, 4 and 5 an update or a deletion
+abbrev pub member : ℕ → ℕ → Member
+member xid status = record { xid = record { 0 = xid }; status = status }
+
+-- a multixact of two members, made by 702 from one position to the next
+abbrev pub multixact_at : ℕ → ℕ → ℕ → List Member → Rec
+multixact_at start end id members = worked_record start end 702 6 0x20 (Multixact id 0 members) []
+
+-- it has the id 0
+abbrev pub multixact_zero : Rec
+multixact_zero = multixact_at 0x20001F0 0x2000228 0 (member 702 4 ∷ member 703 0 ∷ [])
+
+-- one is made, and another by the same id
+abbrev pub multixact_once : Rec
+multixact_once = multixact_at 0x20001F0 0x2000228 5 (member 702 4 ∷ member 703 0 ∷ [])
+
+abbrev pub multixact_again : Rec
+multixact_again = multixact_at 0x2000228 0x2000260 5 (member 702 0 ∷ member 703 0 ∷ [])
+
+-- both of its members update
+abbrev pub multixact_of_updaters : Rec
+multixact_of_updaters = multixact_at 0x20001F0 0x2000228 5 (member 702 4 ∷ member 703 5 ∷ [])
 
 -- 702 deletes line 3, which is free
 abbrev pub delete_of_none : Rec
@@ -162,13 +186,15 @@ running_log = running_702 ∷ locked_log
 abbrev pub checkpoint_without_locks : Rec
 checkpoint_without_locks = checkpoint_at 0x2000250 0x20002C8 0x10 0x2000218 703
 
--- each clause that the records read today can break is broken alone, so none is empty or follows from the others
--- (several of them in more than one way)
+-- each clause is broken alone, so none is empty or follows from the others (several of them in more than one way)
 pub record EachBreaks : Type 0 where
   pub births : BreaksOnly Births (insert_by_ended ∷ worked_log)
   pub deleters : BreaksOnly Deleters (delete_by_ended ∷ worked_log)
   pub blocks : BreaksOnly Blocks (anew_again ∷ worked_log)
   pub multixacts : BreaksOnly Multixacts (lock_by_unmade ∷ worked_log)
+  pub zero_multixact : BreaksOnly NewMultixacts (multixact_zero ∷ worked_log)
+  pub made_again : BreaksOnly NewMultixacts (multixact_again ∷ multixact_once ∷ worked_log)
+  pub two_updaters : BreaksOnly NewMultixacts (multixact_of_updaters ∷ worked_log)
   pub redone : BreaksOnly Redone (delete_of_none ∷ worked_log)
   pub transactions : BreaksOnly Transactions (commit_again ∷ worked_log)
   pub apart : BreaksOnly Apart (block_twice ∷ worked_log)

@@ -14,8 +14,7 @@ use Rattle.row_model.specs.LegalRows.{BlocksRule, CheckpointRule, CutRule, Legal
 -- of a table: how versions are born, get deleters and are removed; what a truncation takes; blocks that are restored or
 -- made anew; its locks, and those that a checkpoint writes again; the multixacts that its tuples name; images after a redo
 -- position. Of the records: blocks that are apart, the redo of a shutdown checkpoint, transactions, new multixacts, and
--- redo that is not refused. Records that are read today cannot break NewMultixacts: those that make multixacts are not read
--- yet
+-- redo that is not refused
 pub data Clause : Type 0 where
   Births : Clause
   Deleters : Clause

@@ -4,4 +4,5 @@ pub mod ArchiveLog
 pub mod BrokenLogs
 pub mod Clauses
 pub mod SecondLog
+pub mod MultixactLog
 pub mod RemovalLog

@@ -5,6 +5,7 @@ ghost use Rattle.worked_logs.specs.ArchiveLog.{ArchiveIsLegal};
 ghost use Rattle.worked_logs.specs.BrokenLogs.{EachBreaks};
 ghost use Rattle.worked_logs.specs.CheckpointRules.{CheckpointRulesBreak};
 ghost use Rattle.worked_logs.specs.EndRules.{EndRulesBreak};
+ghost use Rattle.worked_logs.specs.MultixactLog.{IsMultixactLog};
 ghost use Rattle.worked_logs.specs.RemovalLog.{IsRemovalLog};
 ghost use Rattle.worked_logs.specs.SecondLog.{IsSecondLog};
 ghost use Rattle.worked_logs.specs.Clauses.{LegalKeeps, KeepingIsLegal};
@@ -19,7 +20,7 @@ pub fn keeping_is_legal()
     ensures { KeepingIsLegal }
 {}
 
-/// Each clause that the records read today can break is broken by a log that keeps all others.
+/// Each clause is broken by a log that keeps all others.
 pub fn each_breaks()
     ensures { EachBreaks }
 {
@@ -45,6 +46,15 @@ pub fn second_log()
 pub fn removal_log()
     ensures { IsRemovalLog }
 {
+    row_model::worked_rows();
+}
+
+/// A log in which a tuple shows a multixact of a transaction that updates and of one that locks is legal: so the rules on
+/// multixacts can be met. The old version is the row until the updater has committed, and then the new one is.
+pub fn multixact_log()
+    ensures { IsMultixactLog }
+{
+    row_model::prefix_is_legal();
     row_model::worked_rows();
 }
 

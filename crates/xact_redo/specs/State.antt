@@ -8,12 +8,14 @@ use Rattle.pg_types.specs.declared.status.Status.TheVariants.{None as Unset, Com
 use Rattle.wal_record.specs.declared.types.RecordHead.{RecordHead}
 use Rattle.typed_records.specs.declared.types.Rec.{Rec}
 use Rattle.typed_records.specs.declared.types.RecKind.{RecKind}
-use Rattle.typed_records.specs.declared.types.RecKind.TheVariants.{Assignment, Checkpoint, Ended, Running}
+use Rattle.typed_records.specs.declared.types.RecKind.TheVariants.{Assignment, Checkpoint, Ended, Multixact, Running}
 use Rattle.wal_bodies.specs.Typed.{listed_in}
 use Rattle.wal_bodies.specs.Xids.{record_xids}
 use Rattle.commit_log.specs.Log.{changed_after, changed_at, initial_status, reserved_end, status_after, status_of}
 use Rattle.subtrans.specs.declared.Pair.{Pair}
 use Rattle.subtrans.specs.Parents.{from_sub}
+use Rattle.multixact.specs.Made.{Made, none_made, with_multixact}
+use Rattle.multixact.specs.Entries.{made_in}
 use Rattle.known_assigned.specs.Ids.{greatest, numbers}
 use Rattle.known_assigned.specs.Known.{Known, count_added, nothing_known}
 use Rattle.transaction_model.specs.StandbyStates.{StandbyState, last_named, replay}
@@ -21,11 +23,13 @@ use Rattle.xact_redo.specs.declared.state.XactState.{XactState}
 use Rattle.xact_redo.specs.TransactionsOf.{at_shutdown, is_commit, kind_of}
 
 -- what contracts see of the state: the status of each transaction, the position at which a status on each page
--- of the commit log was set last, the parents of subtransactions, and what is known of running transactions
+-- of the commit log was set last, the parents of subtransactions, the multixacts that were made, and what is known of
+-- running transactions
 pub record TransactionState : Type 0 where
   pub statuses : ℕ → Status
   pub changed : ℕ → ℕ
   pub parents : List Pair
+  pub updaters : Made
   pub known : Known
 
 unfoldable pub transactions : XactState → TransactionState
@@ -33,12 +37,19 @@ transactions state = record {
   statuses = status_of state.log;
   changed = changed_at state.log;
   parents = state.subs.pairs;
+  updaters = made_in state.multis.entries;
   known = state.known.known;
 }
 
 -- before the first record
 unfoldable pub before_records : TransactionState
-before_records = record { statuses = initial_status; changed = λ n. 0; parents = []; known = nothing_known }
+before_records = record {
+  statuses = initial_status;
+  changed = λ n. 0;
+  parents = [];
+  updaters = none_made;
+  known = nothing_known;
+}
 
 -- what the rules of running transactions work on: what is known of them, with the parents of subtransactions
 abbrev pub standby_of : TransactionState → StandbyState
@@ -69,7 +80,13 @@ abbrev pub positions_after : RecordHead → RecKind → Lsn → (ℕ → ℕ) �
 positions_after head (Ended time xinfo xids files) end before = changed_after before (head.xid ∷ xids) end.0
 positions_after head _ end before = before
 
--- the state after a record: known ids and parents by the rules of running transactions, beside the commit log
+-- the multixacts after a record: one more where it makes one (multixact_redo)
+abbrev pub updaters_after : RecKind → Made → Made
+updaters_after (Multixact id offset members) made = with_multixact id members made
+updaters_after _ made = made
+
+-- the state after a record: known ids and parents by the rules of running transactions, beside the commit log and the
+-- multixacts
 unfoldable pub state_after : Rec → TransactionState → TransactionState
 state_after rec s =
     let standby = replay (shows_ended s.statuses) rec.head.xid.0 (kind_of rec.head rec.kind) (standby_of s) in
@@ -77,6 +94,7 @@ state_after rec s =
       statuses = statuses_after rec.head rec.kind s.statuses;
       changed = positions_after rec.head rec.kind rec.end s.changed;
       parents = standby.parents;
+      updaters = updaters_after rec.kind s.updaters;
       known = standby.known;
     }
 
@@ -119,15 +137,21 @@ abbrev pub listed_assigned : RecKind → List Xid
 listed_assigned (Assignment top xids) = xids
 listed_assigned _ = []
 
--- the room that a record needs: for the statuses that it sets, for the parents that it tells, for the ids that it shows
--- to run, and for those of a running record that have not ended, which are chosen beforehand, with the greatest one that
--- has; the subtransactions that it ends or assigns are kept
+-- how many multixacts a record makes
+abbrev pub count_made : RecKind → ℕ
+count_made (Multixact id offset members) = 1
+count_made _ = 0
+
+-- the room that a record needs: for the statuses that it sets, for the parents that it tells, for the multixact that it
+-- makes, for the ids that it shows to run, and for those of a running record that have not ended, which are chosen
+-- beforehand, with the greatest one that has; the subtransactions that it ends or assigns are kept
 pub record HasRoom (rec : Rec) (state : XactState) : Type 0 where
   pub statuses : All (λ (x : Xid). x.0 < reserved_end state.log) (ended_ids rec.head rec.kind)
   pub live : numbers state.scratch ≡ still_live (status_of state.log) (numbers (listed_running rec.kind))
   pub ended : state.ended.0 ≡ greatest_ended (status_of state.log) (numbers (listed_running rec.kind))
   pub tree : state.tree ≡ listed_in rec.kind
   pub parents : length (listed_assigned rec.kind) ≤ state.subs.spare
+  pub multixacts : count_made rec.kind ≤ state.multis.spare
   pub places :
       count_added state.known.known (last_named_in rec.head rec.kind) + length state.scratch ≤ state.known.spare
 

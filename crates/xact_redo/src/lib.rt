@@ -1,5 +1,5 @@
 //! What each record of the log does to a standby's state of transactions: the commit log, the parents of
-//! subtransactions and the known assigned ids (xact.c, standby.c, xlog.c).
+//! subtransactions, the multixacts and the known assigned ids (xact.c, standby.c, xlog.c, multixact.c).
 #![tactic(auto)]
 
 mod records;

@@ -18,10 +18,12 @@ use wal_record::RecordHead;
 /// (`ApplyWalRecord`, xlogrecovery.c); then a commit or an abort ends its transaction
 /// (`xact_redo_commit`, `xact_redo_abort`), an assignment tells the parents of subtransactions
 /// (`ProcArrayApplyXidAssignment`), a running record tells which run
-/// (`ProcArrayApplyRecoveryInfo`), and at a shutdown checkpoint none does.
+/// (`ProcArrayApplyRecoveryInfo`), at a shutdown checkpoint none does, and a multixact is kept with its
+/// updater (`multixact_redo`).
 ///
 /// It takes no memory. It costs a constant time for each id that is new, a search by halving and a
-/// write for each id that ends or is assigned, and of a running record what `KnownAssigned::running` costs.
+/// write for each id that ends or is assigned, a look at each member of a multixact up to its updater, and of a
+/// running record what `KnownAssigned::running` costs.
 #[tactic(auto, unfolding(crate::specs::State::state_after, crate::specs::State::transactions))]
 pub fn redo(rec: &Rec<'_>, state: &mut XactState)
     requires ids { AreIdsInRange rec.now }
@@ -52,6 +54,7 @@ pub fn redo(rec: &Rec<'_>, state: &mut XactState)
             see_running(&head, state);
         }
         RecKind::Checkpoint { next, .. } => see_checkpoint(rec.head, *next, state),
+        RecKind::Multixact { id, members, .. } => state.multis.create(*id, members.again()),
         _ => {}
     }
 }

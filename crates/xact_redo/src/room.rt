@@ -3,11 +3,12 @@ ghost use Rattle.pg_types.specs.declared.names.Xid.{Xid};
 ghost use Rattle.commit_log.specs.Log.{changed_at, reserved_end, status_of};
 ghost use Rattle.wal_bodies.specs.Typed.{listed_in};
 ghost use Rattle.known_assigned.specs.Ids.{numbers};
-ghost use Rattle.xact_redo.specs.State.{HasRoom, ended_ids, greatest_ended, listed_assigned, listed_running, still_live, transactions};
+ghost use Rattle.xact_redo.specs.State.{HasRoom, count_made, ended_ids, greatest_ended, listed_assigned, listed_running, still_live, transactions};
 
 use crate::records::{has_ended, last_named};
 use crate::state::XactState;
 use commit_log::CommitLog;
+use multixact::Multis;
 use pg_types::{NoMemory, Xid, XidList};
 use subtrans::Subtrans;
 use wal_bodies::{Rec, RecKind, Xids};
@@ -25,6 +26,7 @@ pub fn reserve(rec: &Rec<'_>, state: &mut XactState) -> Result<(), NoMemory>
     reserve_statuses(rec, &mut state.log)?;
     keep_tree(rec, &mut state.tree)?;
     reserve_parents(rec, state.tree.len(), &mut state.subs)?;
+    reserve_multixact(rec, &mut state.multis)?;
     state.ended = keep_live(rec, &state.log, &mut state.scratch)?;
     let added = state.known.would_add(last_named(rec));
     match added.checked_add(state.scratch.len() as u64) {
@@ -53,6 +55,17 @@ fn reserve_parents(rec: &Rec<'_>, count: usize, subs: &mut Subtrans) -> Result<(
 {
     match &rec.kind {
         RecKind::Assignment { .. } => subs.reserve(count),
+        _ => Ok(()),
+    }
+}
+
+/// Makes room for the multixact that the record makes.
+fn reserve_multixact(rec: &Rec<'_>, multis: &mut Multis) -> Result<(), NoMemory>
+    ensures entries { multis.new.entries ≡ multis.old.entries }
+    ensures room { OnOk result (count_made rec.now.kind ≤ multis.new.spare) }
+{
+    match &rec.kind {
+        RecKind::Multixact { .. } => multis.reserve(1),
         _ => Ok(()),
     }
 }

@@ -1,7 +1,8 @@
-ghost use Rattle.std.specs.Prelude.{◌≡◌, ℕ, Option, None};
+ghost use Rattle.std.specs.Prelude.{◌≡◌, ℕ};
 
 use commit_log::CommitLog;
 use known_assigned::KnownAssigned;
+use multixact::Multis;
 use pg_types::{Status, Unknown, Xid, XidList};
 use std::alloc::Global;
 use subtrans::Subtrans;
@@ -14,6 +15,8 @@ pub struct XactState {
     pub log: CommitLog,
     /// The parents of subtransactions.
     pub subs: Subtrans,
+    /// The multixacts that were made.
+    pub multis: Multis,
     /// The transactions that run.
     pub known: KnownAssigned,
     /// The ids of a running record that have not ended, from its `reserve` to its `redo`.
@@ -35,6 +38,7 @@ impl XactState {
         XactState {
             log: CommitLog::new(alloc),
             subs: Subtrans::new(alloc),
+            multis: Multis::new(alloc),
             known: KnownAssigned::new(alloc),
             scratch: XidList::new(alloc),
             tree: XidList::new(alloc),
@@ -53,15 +57,14 @@ impl XactState {
 }
 
 impl Statuses for XactState {
-    ghost use Rattle.std.specs.Prelude.{None};
     ghost use Rattle.commit_log.specs.Log.{status_of};
+    ghost use Rattle.multixact.specs.Entries.{made_in};
 
     ghost parents_of = { λ state. state.subs.pairs };
 
     ghost status_of = { λ state. status_of state.log };
 
-    // No record that makes a multixact is read yet.
-    ghost updater_of = { λ _ _. None };
+    ghost updater_of = { λ state. made_in state.multis.entries };
 
     /// At once.
     fn parents(&self) -> &Subtrans {
@@ -73,8 +76,8 @@ impl Statuses for XactState {
         self.log.get(xid)
     }
 
-    /// No multixact is known.
+    /// One search by halving.
     fn updater(&self, id: u32) -> Result<Option<Xid>, Unknown> {
-        Err(Unknown { id })
+        self.multis.updater(id)
     }
 }
